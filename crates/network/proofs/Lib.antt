@@ -1,0 +1,4 @@
+pub mod Ranges
+pub mod Delays
+pub mod Failing
+pub mod Checking
