@@ -9,13 +9,13 @@ use crate::legs::*;
 use crate::refusals::Refusal;
 
 // The number of the first leg with a field outside its range.
-fn first_out_of_range(legs: &[Leg], sites: u32) -> Option<u32>
-    requires { ⌜ length (now legs) < 2 ^ 32 ⌝ }
+fn first_out_of_range(legs: &[Leg], sites: u16) -> Option<u16>
+    requires { ⌜ length (now legs) < 2 ^ 16 ⌝ }
     ensures { λ r. ⌜ r ≡ first-failing (leg-in-range sites) 0 (now (legs .entry)) ⌝ }
 {
     for (i, leg) in legs.iter().enumerate() {
         if !leg.is_in_range(sites) {
-            return Some(i as u32);
+            return Some(i as u16);
         }
     }
     None

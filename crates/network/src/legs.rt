@@ -21,8 +21,8 @@ pub struct Leg {
 // How many sites and legs there are; both are numbered from 0. The legs stand in a table beside it.
 #[derive(Clone, Copy, PartialEq, Eq, Debug)]
 pub struct Network {
-    pub sites: u32,
-    pub legs: u32,
+    pub sites: u16,
+    pub legs: u16,
 }
 
 // The handover delay of a medium; 0 for a number that is no medium.
@@ -46,11 +46,11 @@ impl Leg {
     }
 
     // Each field is in its range, the two sites being below `sites`.
-    pub fn is_in_range(&self, sites: u32) -> bool
+    pub fn is_in_range(&self, sites: u16) -> bool
         ensures { λ r. ⌜ r ≡ leg-in-range sites (now (self .entry)) ⌝ }
     {
-        (self.tail as u32) < sites
-            && (self.head as u32) < sites
+        self.tail < sites
+            && self.head < sites
             && self.fee <= 1_000_000
             && self.grade <= 255
             && self.stated <= 100_000

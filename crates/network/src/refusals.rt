@@ -6,7 +6,7 @@ ghost use Rattle.network.specs.Refusals.{«number-of», «place-of», «stop-n
 #[derive(Clone, Copy, PartialEq, Eq, Debug)]
 pub enum Place {
     Line(u64),
-    Leg(u32),
+    Leg(u16),
 }
 
 // Why a call is refused, with what is at fault where something is.
@@ -29,7 +29,7 @@ pub enum Refusal {
     // The number of sites, the number of legs or the limit is outside its range, or the leg table is too short.
     Size,
     // A leg of the table has a field outside its range.
-    LegRange(u32),
+    LegRange(u16),
     // The leg to write has a field outside its range.
     WrittenLegRange,
     // A site of the question is not in the network.
@@ -39,7 +39,7 @@ pub enum Refusal {
     // The estimate at the goal is not 0 and 0.
     GoalEstimate,
     // The estimates at the two ends of a leg break a rule.
-    LegEstimate(u32),
+    LegEstimate(u16),
     // The search is not open.
     NotOpen,
     // The search has found nothing.

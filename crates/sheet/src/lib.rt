@@ -1,0 +1,6 @@
+// Sheets: a network, its legs and plans, read from text and written as text.
+mod entries;
+pub mod reader;
+mod text;
+mod words;
+pub mod writing;
