@@ -22,7 +22,7 @@ use Rattle.network.specs.declared.refusals.Refusal.{Refusal}
 use Rattle.network.specs.declared.refusals.Refusal.the-variants.{Unended, UnknownWord, OutOfPlace}
 use Rattle.sheet.specs.Text.{Row, row, lines, fields}
 use Rattle.sheet.specs.Words.{Kind, kind-by-word, network, leg, plan}
-use Rattle.sheet.specs.Sheets.{Placed, placed, line-ahead, row-kind, past, some-placed, or-refuse, and-then, next-line, leg-stated, with-room, has-room, by-leg, legs-from, load, Load, sized, by-sites, loaded-from, sites-stated, Next, next, next-from, by-plan, plan-stated}
+use Rattle.sheet.specs.Sheets.{Placed, placed, line-ahead, row-kind, past, some-placed, or-refuse, and-then, one-more, leg-stated, with-room, has-room, by-leg, legs-from, load, Load, sized, by-sites, loaded-from, sites-stated, Next, next, next-from, by-plan, plan-stated}
 use Rattle.sheet.proofs.Lining.{lines-rest}
 
 never : {X : Type 0} → _≡_ {A = ℕ} 0 1 → X
@@ -79,34 +79,34 @@ module _ (n room at line : ℕ) (ls : List Leg) where
   legs-refused rows x e =
       let b = refused-line line at rows x e in
       sym (ap (legs-from n room at line ls) (b .2)
-      ∙ ap (λ o. by-leg (and-then o (leg-stated n line (has-room room (length ls)))) (λ l. legs-from n room (past at (b .0)) (next-line line) (ls ++ l ∷ []) (b .1)) (load (Ok (sized n ls)) ls at line) (λ y. load (Err y) ls at line)) (b .3))
+      ∙ ap (λ o. by-leg (and-then o (leg-stated n line (has-room room (length ls)))) (λ l. legs-from n room (past at (b .0)) (one-more line) (ls ++ l ∷ []) (b .1)) (load (Ok (sized n ls)) ls at line) (λ y. load (Err y) ls at line)) (b .3))
 
   module _ (rows : List Row) (t : Kind) (k : ℕ) (e : Ok (Some (placed k t)) ≡ line-ahead line at rows) where
-    legs-by-kind : (r : Row) × (rs : List Row) × (rows ≡ r ∷ rs) × (row-kind line r ≡ Ok t) × (k ≡ past at r) × (legs-from n room at line ls rows ≡ by-leg (leg-stated n line (has-room room (length ls)) t) (λ l. legs-from n room (past at r) (next-line line) (ls ++ l ∷ []) rs) (load (Ok (sized n ls)) ls at line) (λ y. load (Err y) ls at line))
+    legs-by-kind : (r : Row) × (rs : List Row) × (rows ≡ r ∷ rs) × (row-kind line r ≡ Ok t) × (k ≡ past at r) × (legs-from n room at line ls rows ≡ by-leg (leg-stated n line (has-room room (length ls)) t) (λ l. legs-from n room (past at r) (one-more line) (ls ++ l ∷ []) rs) (load (Ok (sized n ls)) ls at line) (λ y. load (Err y) ls at line))
     unfolding legs-from
     legs-by-kind =
         let b = kind-line line at rows t k e in
         (b .0, b .1, b .2, b .3, b .4,
           ap (legs-from n room at line ls) (b .2)
-          ∙ ap (λ o. by-leg (and-then o (leg-stated n line (has-room room (length ls)))) (λ l. legs-from n room (past at (b .0)) (next-line line) (ls ++ l ∷ []) (b .1)) (load (Ok (sized n ls)) ls at line) (λ y. load (Err y) ls at line)) (b .3))
+          ∙ ap (λ o. by-leg (and-then o (leg-stated n line (has-room room (length ls)))) (λ l. legs-from n room (past at (b .0)) (one-more line) (ls ++ l ∷ []) (b .1)) (load (Ok (sized n ls)) ls at line) (λ y. load (Err y) ls at line)) (b .3))
 
     pub legs-stop : Ok None ≡ leg-stated n line (has-room room (length ls)) t → load (Ok (sized n ls)) ls at line ≡ legs-from n room at line ls rows
     legs-stop h =
         let b = legs-by-kind in
-        sym (b .5 ∙ ap (λ o. by-leg o (λ l. legs-from n room (past at (b .0)) (next-line line) (ls ++ l ∷ []) (b .1)) (load (Ok (sized n ls)) ls at line) (λ y. load (Err y) ls at line)) (sym h))
+        sym (b .5 ∙ ap (λ o. by-leg o (λ l. legs-from n room (past at (b .0)) (one-more line) (ls ++ l ∷ []) (b .1)) (load (Ok (sized n ls)) ls at line) (λ y. load (Err y) ls at line)) (sym h))
 
     pub legs-bad : (x : Refusal) → Err x ≡ leg-stated n line (has-room room (length ls)) t → load (Err x) ls at line ≡ legs-from n room at line ls rows
     legs-bad x h =
         let b = legs-by-kind in
-        sym (b .5 ∙ ap (λ o. by-leg o (λ l. legs-from n room (past at (b .0)) (next-line line) (ls ++ l ∷ []) (b .1)) (load (Ok (sized n ls)) ls at line) (λ y. load (Err y) ls at line)) (sym h))
+        sym (b .5 ∙ ap (λ o. by-leg o (λ l. legs-from n room (past at (b .0)) (one-more line) (ls ++ l ∷ []) (b .1)) (load (Ok (sized n ls)) ls at line) (λ y. load (Err y) ls at line)) (sym h))
 
-    pub legs-go : (sheet : List ℕ) (l : Leg) → rows ≡ lines (drop at sheet) → Ok (Some l) ≡ leg-stated n line (has-room room (length ls)) t → legs-from n room k (next-line line) (ls ++ l ∷ []) (lines (drop k sheet)) ≡ legs-from n room at line ls rows
+    pub legs-go : (sheet : List ℕ) (l : Leg) → rows ≡ lines (drop at sheet) → Ok (Some l) ≡ leg-stated n line (has-room room (length ls)) t → legs-from n room k (one-more line) (ls ++ l ∷ []) (lines (drop k sheet)) ≡ legs-from n room at line ls rows
     legs-go sheet l s h =
         let b = legs-by-kind in
         sym (b .5
-        ∙ ap (λ o. by-leg o (λ l. legs-from n room (past at (b .0)) (next-line line) (ls ++ l ∷ []) (b .1)) (load (Ok (sized n ls)) ls at line) (λ y. load (Err y) ls at line)) (sym h)
-        ∙ ap (λ p. legs-from n room p (next-line line) (ls ++ l ∷ []) (b .1)) (sym (b .4))
-        ∙ ap (legs-from n room k (next-line line) (ls ++ l ∷ [])) (rows-after line at sheet (b .0) (b .1) t k (sym s ∙ b .2) (b .3) (b .4)))
+        ∙ ap (λ o. by-leg o (λ l. legs-from n room (past at (b .0)) (one-more line) (ls ++ l ∷ []) (b .1)) (load (Ok (sized n ls)) ls at line) (λ y. load (Err y) ls at line)) (sym h)
+        ∙ ap (λ p. legs-from n room p (one-more line) (ls ++ l ∷ []) (b .1)) (sym (b .4))
+        ∙ ap (legs-from n room k (one-more line) (ls ++ l ∷ [])) (rows-after line at sheet (b .0) (b .1) t k (sym s ∙ b .2) (b .3) (b .4)))
 
 -- where a reading of legs ends
 pub legs-done : (reader₀ reader : Reader) (table₀ table : List Leg) (m : ℕ) (r : Result Network Refusal) (o : Load) → load r (take m table) (reader .place) (reader .line) ≡ o → m ≤ length table → table ≡ take m table ++ drop m table₀ → reader ≡ moved reader₀ (reader .place) (reader .line) → (r ≡ o .outcome) × (reader ≡ moved reader₀ (o .at) (o .line)) × (table ≡ fronted (o .legs) table₀)
@@ -141,7 +141,7 @@ module _ (n room m : ℕ) (reader : Reader) (table : List Leg) (le : m ≤ lengt
     pub table-bad : (x : Refusal) → Err x ≡ leg-stated n (reader .line) b t → load (Err x) (take m table) (reader .place) (reader .line) ≡ rest
     table-bad x h = legs-bad n room (reader .place) (reader .line) (take m table) (rows-left reader) t k e x (h ∙ ap (λ x. leg-stated n (reader .line) x t) free)
 
-    pub table-go : (l : Leg) (line′ : ℕ) → m < length table → Ok (Some l) ≡ leg-stated n (reader .line) b t → line′ ≡ next-line (reader .line) → legs-from n room k line′ (take (m + 1) (set table m l)) (lines (drop k (reader .sheet .now))) ≡ rest
+    pub table-go : (l : Leg) (line′ : ℕ) → m < length table → Ok (Some l) ≡ leg-stated n (reader .line) b t → line′ ≡ one-more (reader .line) → legs-from n room k line′ (take (m + 1) (set table m l)) (lines (drop k (reader .sheet .now))) ≡ rest
     table-go l line′ lt h s =
         ap (λ ls. legs-from n room k line′ ls (lines (drop k (reader .sheet .now)))) (take-more-set table m l lt)
         ∙ ap (λ x. legs-from n room k x (take m table ++ l ∷ []) (lines (drop k (reader .sheet .now)))) s
@@ -177,7 +177,7 @@ module _ (room : ℕ) where
   unfolding loaded-from
   load-refused rows x e =
       let b = refused-line 1 0 rows x e in
-      sym (ap (loaded-from room) (b .2) ∙ ap (λ o. by-sites (and-then o (sites-stated 1)) (λ n. legs-from n room (past 0 (b .0)) (next-line 1) [] (b .1))) (b .3))
+      sym (ap (loaded-from room) (b .2) ∙ ap (λ o. by-sites (and-then o (sites-stated 1)) (λ n. legs-from n room (past 0 (b .0)) (one-more 1) [] (b .1))) (b .3))
 
   module _ (sheet : List ℕ) (t : Kind) (k : ℕ) (e : Ok (Some (placed k t)) ≡ line-ahead 1 0 (lines sheet)) where
     pub load-bad : (x : Refusal) → Err x ≡ sites-stated 1 t → load (Err x) [] 0 1 ≡ loaded-from room (lines sheet)
@@ -185,16 +185,16 @@ module _ (room : ℕ) where
     load-bad x h =
         let b = kind-line 1 0 (lines sheet) t k e in
         sym (ap (loaded-from room) (b .2)
-        ∙ ap (λ o. by-sites (and-then o (sites-stated 1)) (λ n. legs-from n room (past 0 (b .0)) (next-line 1) [] (b .1))) (b .3)
-        ∙ ap (λ o. by-sites o (λ n. legs-from n room (past 0 (b .0)) (next-line 1) [] (b .1))) (sym h))
+        ∙ ap (λ o. by-sites (and-then o (sites-stated 1)) (λ n. legs-from n room (past 0 (b .0)) (one-more 1) [] (b .1))) (b .3)
+        ∙ ap (λ o. by-sites o (λ n. legs-from n room (past 0 (b .0)) (one-more 1) [] (b .1))) (sym h))
 
     pub load-go : (n : ℕ) → Ok n ≡ sites-stated 1 t → legs-from n room k 2 [] (lines (drop k sheet)) ≡ loaded-from room (lines sheet)
     unfolding loaded-from
     load-go n h =
         let b = kind-line 1 0 (lines sheet) t k e in
         sym (ap (loaded-from room) (b .2)
-        ∙ ap (λ o. by-sites (and-then o (sites-stated 1)) (λ n. legs-from n room (past 0 (b .0)) (next-line 1) [] (b .1))) (b .3)
-        ∙ ap (λ o. by-sites o (λ n. legs-from n room (past 0 (b .0)) (next-line 1) [] (b .1))) (sym h)
+        ∙ ap (λ o. by-sites (and-then o (sites-stated 1)) (λ n. legs-from n room (past 0 (b .0)) (one-more 1) [] (b .1))) (b .3)
+        ∙ ap (λ o. by-sites o (λ n. legs-from n room (past 0 (b .0)) (one-more 1) [] (b .1))) (sym h)
         ∙ ap (λ p. legs-from n room p 2 [] (b .1)) (sym (b .4))
         ∙ ap (legs-from n room k 2 []) (rows-after 1 0 sheet (b .0) (b .1) t k (b .2) (b .3) (b .4)))
 

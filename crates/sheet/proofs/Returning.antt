@@ -25,7 +25,7 @@ use Rattle.network.specs.Legs.{leg-in-range}
 use Rattle.network.proofs.Ranges.{ranges}
 use Rattle.sheet.specs.Entries.{leg-entry, leg-of, checked}
 use Rattle.network.specs.declared.refusals.Refusal.the-variants.{UnknownWord, TableFull}
-use Rattle.sheet.specs.Sheets.{or-refuse, row-kind, past, next-line, leg-stated, with-room, has-room, and-then, by-leg, legs-from, loaded-from, load, Load, sized}
+use Rattle.sheet.specs.Sheets.{or-refuse, row-kind, past, one-more, leg-stated, with-room, has-room, and-then, by-leg, legs-from, loaded-from, load, Load, sized}
 use Rattle.sheet.specs.Writing.{laid, listed, leg-numbers, leg-text}
 use Rattle.sheet.specs.Theorems.{all-in-range, leg-texts, sheet-of, Written-legs-read-back, Written-leg-reads-back}
 use Rattle.sheet.proofs.Cutting.{upto-here, upto-more, fields-here, fields-more}
@@ -174,11 +174,11 @@ lines-back l rest r =
     ap (λ x. lines (codes "leg" ++ x)) (append-assoc (listed ns) (10 ∷ []) rest)
     ∙ lines-line (codes "leg" ++ listed ns) rest ((λ e. omega arith), ((λ e. omega arith), ((λ e. omega arith), f)))
 
-leg-back : (room at line : ℕ) (acc : List Leg) (l : Leg) (rest : List ℕ) → leg-in-range 1024 l ≡ true → length acc < room → length acc < 4096 → legs-from 1024 room at line acc (lines (leg-text l ++ rest)) ≡ legs-from 1024 room (past at (leg-row l)) (next-line line) (acc ++ l ∷ []) (lines rest)
+leg-back : (room at line : ℕ) (acc : List Leg) (l : Leg) (rest : List ℕ) → leg-in-range 1024 l ≡ true → length acc < room → length acc < 4096 → legs-from 1024 room at line acc (lines (leg-text l ++ rest)) ≡ legs-from 1024 room (past at (leg-row l)) (one-more line) (acc ++ l ∷ []) (lines rest)
 unfolding legs-from
 leg-back room at line acc l rest r a b =
     ap (legs-from 1024 room at line acc) (lines-back l rest r)
-    ∙ ap (λ o. by-leg o (λ x. legs-from 1024 room (past at (leg-row l)) (next-line line) (acc ++ x ∷ []) (lines rest)) (load (Ok (sized 1024 acc)) acc at line) (λ y. load (Err y) acc at line))
+    ∙ ap (λ o. by-leg o (λ x. legs-from 1024 room (past at (leg-row l)) (one-more line) (acc ++ x ∷ []) (lines rest)) (load (Ok (sized 1024 acc)) acc at line) (λ y. load (Err y) acc at line))
       (row-back l line (has-room room (length acc)) r (and-from _ _ (lt-ltb _ _ a) (lt-ltb _ _ b)))
 
 -- legs that are written load one after another
@@ -187,9 +187,9 @@ unfolding lines legs-from
 legs-back [] room at line acc r a b = (ap (λ x. Ok (sized 1024 x)) (sym (append-nil acc)), sym (append-nil acc))
 legs-back (l ∷ ls) room at line acc r a b =
     let p = and-parts _ _ r in
-    let e : legs-from 1024 room at line acc (lines (leg-texts (l ∷ ls))) ≡ legs-from 1024 room (past at (leg-row l)) (next-line line) (acc ++ l ∷ []) (lines (leg-texts ls)) = leg-back room at line acc l (leg-texts ls) (p .0) (omega arith) (omega arith) in
+    let e : legs-from 1024 room at line acc (lines (leg-texts (l ∷ ls))) ≡ legs-from 1024 room (past at (leg-row l)) (one-more line) (acc ++ l ∷ []) (lines (leg-texts ls)) = leg-back room at line acc l (leg-texts ls) (p .0) (omega arith) (omega arith) in
     let n = length-push acc l in
-    let ih = legs-back ls room (past at (leg-row l)) (next-line line) (acc ++ l ∷ []) (p .1) (omega arith) (omega arith) in
+    let ih = legs-back ls room (past at (leg-row l)) (one-more line) (acc ++ l ∷ []) (p .1) (omega arith) (omega arith) in
     let s = append-assoc acc (l ∷ []) ls in
     (ap (λ o. o .outcome) e ∙ ih .0 ∙ ap (λ x. Ok (sized 1024 x)) s, ap (λ o. o .legs) e ∙ ih .1 ∙ s)
 

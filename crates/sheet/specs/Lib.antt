@@ -4,5 +4,6 @@ pub mod Words
 pub mod Entries
 pub mod Sheets
 pub mod Calls
+pub mod Check
 pub mod Writing
 pub mod Theorems

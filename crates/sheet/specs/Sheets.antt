@@ -50,9 +50,9 @@ abbrev pub and-then : {X Y : Type 0} → Result X Refusal → (X → Result Y Re
 and-then (Err e) f = Err e
 and-then (Ok x) f = f x
 
--- Lines are counted from 1, up to the largest number of 64 bits, which no sheet in memory comes to.
-abbrev pub next-line : ℕ → ℕ
-next-line line = min (line + 1) (2 ^ 64 - 1)
+-- Lines, from 1, and plans are counted up to the largest number of 64 bits, which no sheet in memory comes to.
+abbrev pub one-more : ℕ → ℕ
+one-more k = min (k + 1) (2 ^ 64 - 1)
 
 -- The first line states the number of sites; a line of another kind is out of place.
 abbrev pub sites-stated : ℕ → Kind → Result ℕ Refusal
@@ -103,7 +103,7 @@ unfoldable pub legs-from : ℕ → ℕ → ℕ → ℕ → List Leg → List Row
 legs-from n room at line ls [] = load (Ok (sized n ls)) ls at line
 legs-from n room at line ls (r ∷ rs) =
     by-leg (and-then (row-kind line r) (leg-stated n line (has-room room (length ls))))
-    (λ l. legs-from n room (past at r) (next-line line) (ls ++ l ∷ []) rs)
+    (λ l. legs-from n room (past at r) (one-more line) (ls ++ l ∷ []) rs)
     (load (Ok (sized n ls)) ls at line)
     (λ e. load (Err e) ls at line)
 
@@ -114,7 +114,7 @@ by-sites (Ok n) go = go n
 -- What a load of these lines comes to, with a table of this room. A sheet with no line is refused as line 1.
 unfoldable pub loaded-from : ℕ → List Row → Load
 loaded-from room [] = load (Err (OutOfPlace 1)) [] 0 1
-loaded-from room (r ∷ rs) = by-sites (and-then (row-kind 1 r) (sites-stated 1)) (λ n. legs-from n room (past 0 r) (next-line 1) [] rs)
+loaded-from room (r ∷ rs) = by-sites (and-then (row-kind 1 r) (sites-stated 1)) (λ n. legs-from n room (past 0 r) (one-more 1) [] rs)
 
 -- What reading a plan answers, and the place and line where the reader then stands.
 pub record Next : Type 0 where
@@ -127,7 +127,7 @@ next r at line = record { answer = r; at = at; line = line }
 
 abbrev pub by-plan : ℕ → ℕ → ℕ → Result Plan Refusal → Next
 by-plan at line after (Err e) = next (Err e) at line
-by-plan at line after (Ok p) = next (Ok (Some p)) after (next-line line)
+by-plan at line after (Ok p) = next (Ok (Some p)) after (one-more line)
 
 -- At the end of the sheet there is no plan, after an accepted load. A refused reading stays at its line.
 abbrev pub next-from : Bool → ℕ → ℕ → ℕ → List Row → Next

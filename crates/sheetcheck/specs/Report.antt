@@ -1,0 +1,28 @@
+-- The line that tells what a sheet has, or its first refusal. Assumes nothing.
+use mathlib.Core.List.{List, _++_}
+use Prim.Native.Nat.{ℕ}
+use lib.Chars.{codes}
+use Rattle.std.specs.declared.option.Option.{Option}
+use Rattle.std.specs.declared.option.Option.the-variants.{Some, None}
+use Rattle.std.specs.declared.result.Result.{Result}
+use Rattle.std.specs.declared.result.Result.the-variants.{Ok, Err}
+use Rattle.std.specs.Written.{decimal}
+use Rattle.network.specs.declared.refusals.Place.{Place}
+use Rattle.network.specs.declared.refusals.Place.the-variants as place
+use Rattle.network.specs.declared.refusals.Refusal.{Refusal}
+use Rattle.network.specs.Refusals.{number-of, place-of}
+use Rattle.sheet.specs.declared.check.Summary.{Summary}
+
+abbrev pub line-of : Option Place → ℕ
+line-of None = 0
+line-of (Some (place.Line line)) = line
+line-of (Some (place.Leg leg)) = 0
+
+-- The line that a refusal carries; 0 where it carries none.
+abbrev pub line-at-fault : Refusal → ℕ
+line-at-fault r = line-of (place-of r)
+
+-- `ok,SITES,LEGS,PLANS` or `refuse,NUMBER,LINE`.
+abbrev pub answer-line : Result Summary Refusal → List ℕ
+answer-line (Ok s) = codes "ok," ++ (decimal (s .network .sites) ++ (codes "," ++ (decimal (s .network .legs) ++ (codes "," ++ decimal (s .plans)))))
+answer-line (Err r) = codes "refuse," ++ (decimal (number-of r) ++ (codes "," ++ decimal (line-at-fault r)))
