@@ -31,13 +31,13 @@ module _ (net : Network) (table : List Leg) where
 
 -- the tests of the network come first, and what follows counts only where they pass
 by-tests : (s : Bool) (f : Option ℕ) (rest : Option Refusal) (w : Refusal)
-  → Some w ≡ unless s why.Size (unless-leg why.LegRange f None) → Some w ≡ unless s why.Size (unless-leg why.LegRange f rest)
+    → Some w ≡ unless s why.Size (unless-leg why.LegRange f None) → Some w ≡ unless s why.Size (unless-leg why.LegRange f rest)
 by-tests true (Some j) rest w e = e
 by-tests true None rest w e = let z : _≡_ {A = ℕ} 0 1 = cc in absurd (omega arith)
 by-tests false f rest w e = e
 
 past-tests : (s : Bool) (f : Option ℕ) (rest : Option Refusal)
-  → None ≡ unless s why.Size (unless-leg why.LegRange f None) → rest ≡ unless s why.Size (unless-leg why.LegRange f rest)
+    → None ≡ unless s why.Size (unless-leg why.LegRange f None) → rest ≡ unless s why.Size (unless-leg why.LegRange f rest)
 past-tests true (Some j) rest e = let z : _≡_ {A = ℕ} 0 1 = cc in absurd (omega arith)
 past-tests true None rest e = refl
 past-tests false f rest e = let z : _≡_ {A = ℕ} 0 1 = cc in absurd (omega arith)
@@ -68,8 +68,7 @@ pub accepted : (net : Network) (table : List Leg) (rest : Option Refusal) → No
 unfolding network-refusal
 accepted net table rest e =
     let p = passed (sizes-fit net (length table)) (first-failing (leg-in-range (net .sites)) 0 (legs-of net table)) rest e in
-    let s : sizes-fit net (length table) ≡ true = p .0 in
-    (
+    let s : sizes-fit net (length table) ≡ true = p .0 in (
       record {
         some-sites = grind (arith, tells);
         few-sites = grind (arith, tells);

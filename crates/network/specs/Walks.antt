@@ -55,7 +55,7 @@ pub record Route (g : Graph) (start goal limit : ℕ) (js : List ℕ) : Type 0 w
 pub record Cheapest (g : Graph) (start goal limit : ℕ) (js : List ℕ) : Type 0 where
   pub route : Route g start goal limit js
   pub best : (ks : List ℕ) → Route g start goal limit ks
-    → (walk-cost g js < walk-cost g ks) ⊎ ((walk-cost g js ≡ walk-cost g ks) × (walk-delay g js ≤ walk-delay g ks))
+      → (walk-cost g js < walk-cost g ks) ⊎ ((walk-cost g js ≡ walk-cost g ks) × (walk-delay g js ≤ walk-delay g ks))
 
 -- Some walk from u to v has the value x, and none has less.
 pub record Least (g : Graph) (value : List ℕ → ℕ) (u v x : ℕ) : Type 0 where

@@ -95,8 +95,8 @@ count-more n plans s s′ p e m =
     let left = ap length rest in
     subst (More n plans s) (sym m′) (record {
       same =
-        ap (plans-from (s .loaded) n (one-more line) (one-more plans)) (sym rest)
-        ∙ ap (λ x. on-plan x (plans-from (s .loaded) n (one-more line) (one-more plans) (b .1))) (sym (b .3))
-        ∙ ap (plans-from (s .loaded) n line plans) (sym (b .2));
+          ap (plans-from (s .loaded) n (one-more line) (one-more plans)) (sym rest)
+          ∙ ap (λ x. on-plan x (plans-from (s .loaded) n (one-more line) (one-more plans) (b .1))) (sym (b .3))
+          ∙ ap (plans-from (s .loaded) n line plans) (sym (b .2));
       fewer = omega arith;
     })

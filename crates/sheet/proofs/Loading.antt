@@ -85,10 +85,15 @@ module _ (n room at line : ℕ) (ls : List Leg) where
     legs-by-kind : (r : Row) × (rs : List Row) × (rows ≡ r ∷ rs) × (row-kind line r ≡ Ok t) × (k ≡ past at r) × (legs-from n room at line ls rows ≡ by-leg (leg-stated n line (has-room room (length ls)) t) (λ l. legs-from n room (past at r) (one-more line) (ls ++ l ∷ []) rs) (load (Ok (sized n ls)) ls at line) (λ y. load (Err y) ls at line))
     unfolding legs-from
     legs-by-kind =
-        let b = kind-line line at rows t k e in
-        (b .0, b .1, b .2, b .3, b .4,
+        let b = kind-line line at rows t k e in (
+          b .0,
+          b .1,
+          b .2,
+          b .3,
+          b .4,
           ap (legs-from n room at line ls) (b .2)
-          ∙ ap (λ o. by-leg (and-then o (leg-stated n line (has-room room (length ls)))) (λ l. legs-from n room (past at (b .0)) (one-more line) (ls ++ l ∷ []) (b .1)) (load (Ok (sized n ls)) ls at line) (λ y. load (Err y) ls at line)) (b .3))
+              ∙ ap (λ o. by-leg (and-then o (leg-stated n line (has-room room (length ls)))) (λ l. legs-from n room (past at (b .0)) (one-more line) (ls ++ l ∷ []) (b .1)) (load (Ok (sized n ls)) ls at line) (λ y. load (Err y) ls at line)) (b .3),
+        )
 
     pub legs-stop : Ok None ≡ leg-stated n line (has-room room (length ls)) t → load (Ok (sized n ls)) ls at line ≡ legs-from n room at line ls rows
     legs-stop h =
@@ -218,8 +223,8 @@ module _ (loaded : Bool) (n at line : ℕ) (rows : List Row) where
 
 -- where a load ends, once its legs are read or a line was refused
 pub load-done : (reader₀ reader : Reader) (network₀ : Network) (table₀ table : List Leg) (r : Result Network Refusal) (p o : Load) → p ≡ o
-  → r ≡ p .outcome → table ≡ fronted (p .legs) table₀ → reader ≡ record { sheet = reader₀ .sheet; place = p .at; line = p .line; loaded = isOk r }
-  → (answered r ≡ answer-of o) × (replaced r network₀ ≡ network-after o network₀) × (table ≡ fronted (o .legs) table₀) × (reader ≡ reader-after o reader₀)
+    → r ≡ p .outcome → table ≡ fronted (p .legs) table₀ → reader ≡ record { sheet = reader₀ .sheet; place = p .at; line = p .line; loaded = isOk r }
+    → (answered r ≡ answer-of o) × (replaced r network₀ ≡ network-after o network₀) × (table ≡ fronted (o .legs) table₀) × (reader ≡ reader-after o reader₀)
 load-done reader₀ reader network₀ table₀ table r p o e a t h = (
   ap answered a ∙ ap answer-of e,
   ap (λ x. replaced x network₀) a ∙ ap (λ x. network-after x network₀) e,

@@ -42,8 +42,8 @@ digital-push (x ∷ xs) c d low high = (d .0, d .1, digital-push xs c (d .2) low
 
 digital-decimal : (n : ℕ) → n < 2 ^ 64 → digital (decimal n)
 digital-decimal = decimal-by-steps (λ n ds. digital ds)
-  (λ n h. (omega arith, omega arith, tt))
-  (λ n ds h d. digital-push ds (48 + n % 10) d (omega arith) (omega arith))
+    (λ n h. (omega arith, omega arith, tt))
+    (λ n ds h d. digital-push ds (48 + n % 10) d (omega arith) (omega arith))
 
 -- the value of a number's digits
 read-push : (m n c : ℕ) (ds : List ℕ) → read-on m ds ≡ Some n → 48 ≤ c → c ≤ 57 → read-on m (ds ++ c ∷ []) ≡ Some (10 * n + (c - 48))
@@ -58,8 +58,8 @@ read-push m n c (x ∷ xs) e low high = by-byte (ltb x 48 || ltb 57 x) (λ h. re
 
 read-decimal : (n : ℕ) → n < 2 ^ 64 → read-on 0 (decimal n) ≡ Some n
 read-decimal = decimal-by-steps (λ n ds. read-on 0 ds ≡ Some n)
-  (λ n h. let e : 10 * 0 + (48 + n - 48) ≡ n = omega arith in cond-false _ _ _ (or-from _ _ (le-ltb (48 + n) 48 (omega arith)) (le-ltb 57 (48 + n) (omega arith))) ∙ ap Some e)
-  (λ n ds h e.
+    (λ n h. let e : 10 * 0 + (48 + n - 48) ≡ n = omega arith in cond-false _ _ _ (or-from _ _ (le-ltb (48 + n) 48 (omega arith)) (le-ltb 57 (48 + n) (omega arith))) ∙ ap Some e)
+    (λ n ds h e.
     let k : 10 * (n / 10) + (48 + n % 10 - 48) ≡ n = omega arith in
     read-push 0 (n / 10) (48 + n % 10) ds e (omega arith) (omega arith) ∙ ap Some k)
 
@@ -138,13 +138,22 @@ values-decimal (n ∷ ns) s = ap (λ x. both x (values (map decimal ns))) (value
 -- a leg's line says that leg
 small-leg : (l : Leg) → leg-in-range 1024 l ≡ true → small (leg-numbers l)
 small-leg l r =
-    let h = ranges 1024 l r in
-    (omega (arith, h .tail),
-    (omega (arith, h .head),
-    (omega (arith, h .fee),
-    (omega (arith, h .grade),
-    (omega (arith, h .stated),
-    (omega (arith, h .medium), tt))))))
+    let h = ranges 1024 l r in (
+      omega (arith, h .tail),
+      (
+        omega (arith, h .head),
+        (
+          omega (arith, h .fee),
+          (
+            omega (arith, h .grade),
+            (
+              omega (arith, h .stated),
+              (omega (arith, h .medium), tt),
+            ),
+          ),
+        ),
+      ),
+    )
 
 entry-back : (l : Leg) (line : ℕ) → leg-in-range 1024 l ≡ true → leg-entry 1024 line (fields (listed (leg-numbers l))) ≡ Ok l
 entry-back l line r =
@@ -179,7 +188,7 @@ unfolding legs-from
 leg-back room at line acc l rest r a b =
     ap (legs-from 1024 room at line acc) (lines-back l rest r)
     ∙ ap (λ o. by-leg o (λ x. legs-from 1024 room (past at (leg-row l)) (one-more line) (acc ++ x ∷ []) (lines rest)) (load (Ok (sized 1024 acc)) acc at line) (λ y. load (Err y) acc at line))
-      (row-back l line (has-room room (length acc)) r (and-from _ _ (lt-ltb _ _ a) (lt-ltb _ _ b)))
+    (row-back l line (has-room room (length acc)) r (and-from _ _ (lt-ltb _ _ a) (lt-ltb _ _ b)))
 
 -- legs that are written load one after another
 legs-back : (ls : List Leg) (room at line : ℕ) (acc : List Leg) → all-in-range ls ≡ true → length acc + length ls ≤ room → length acc + length ls ≤ 4096 → (legs-from 1024 room at line acc (lines (leg-texts ls)) .outcome ≡ Ok (sized 1024 (acc ++ ls))) × (legs-from 1024 room at line acc (lines (leg-texts ls)) .legs ≡ acc ++ ls)

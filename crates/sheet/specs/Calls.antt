@@ -1,6 +1,4 @@
 -- What the calls of a reader come to. Assumes nothing.
-use mathlib.Core.Path.{_≡_}
-use mathlib.Core.Bool.{Bool, false}
 use mathlib.Core.List.{List, [], _++_}
 use Prim.Native.Nat.{ℕ}
 use lib.ListN.{drop, length}
@@ -12,7 +10,7 @@ use Rattle.std.specs.Results.{isOk}
 use Rattle.network.specs.declared.legs.Leg.{Leg}
 use Rattle.network.specs.declared.legs.Network.{Network}
 use Rattle.network.specs.declared.refusals.Refusal.{Refusal}
-use Rattle.sheet.specs.declared.reader.Ahead.{Ahead}
+use Rattle.sheet.specs.declared.reader.reading.Ahead.{Ahead}
 use Rattle.sheet.specs.declared.reader.Reader.{Reader}
 use Rattle.sheet.specs.Text.{Row, lines}
 use Rattle.sheet.specs.Words.{Kind, line-kind}
@@ -65,7 +63,3 @@ reader-after o r = record { sheet = r .sheet; place = o .at; line = o .line; loa
 -- What reading a plan comes to, in a network of n sites.
 abbrev pub next-of : ℕ → Reader → Next
 next-of n r = next-from (r .loaded) n (r .place) (r .line) (rows-left r)
-
--- A reader before its first load.
-abbrev pub fresh : List ℕ → Reader → Type 0
-fresh sheet r = (r .sheet .now ≡ sheet) × (r .place ≡ 0) × (r .line ≡ 1) × (r .loaded ≡ false)

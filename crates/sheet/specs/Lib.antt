@@ -3,6 +3,7 @@ pub mod Numbers
 pub mod Words
 pub mod Entries
 pub mod Sheets
+pub mod Start
 pub mod Calls
 pub mod Check
 pub mod Writing

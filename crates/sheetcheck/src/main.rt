@@ -45,12 +45,18 @@ fn answer_line(heap: Global, answer: &Result<Summary, Refusal>) -> Result<String
 // What is wrong with the line, for whoever typed it.
 fn advice(refusal: &Refusal) -> &'static str {
     match refusal {
-        Refusal::Unended(_) => "the line is cut off; every line, the last one too, must end with a line break",
-        Refusal::UnknownWord(_) => "the line must begin with the word network, leg or plan, then a comma",
-        Refusal::OutOfPlace(_) => "a line of this kind may not stand here; the network line comes first and once, then all legs, then all plans",
-        Refusal::FieldCount(_) => "the number of fields is wrong; network has 1 field after its word, leg has 6, plan has 4",
-        Refusal::FieldForm(_) => "a field is not a plain number; write 1 to 10 digits with no sign, space, point or leading 0",
-        Refusal::FieldRange(_) => "a number is outside its range; sites are numbered from 0 and must be below the network's number of sites",
+        Refusal::Unended(_) =>
+            "the line is cut off; every line, the last one too, must end with a line break",
+        Refusal::UnknownWord(_) =>
+            "the line must begin with the word network, leg or plan, then a comma",
+        Refusal::OutOfPlace(_) =>
+            "a line of this kind may not stand here; the network line comes first and once, then all legs, then all plans",
+        Refusal::FieldCount(_) =>
+            "the number of fields is wrong; network has 1 field after its word, leg has 6, plan has 4",
+        Refusal::FieldForm(_) =>
+            "a field is not a plain number; write 1 to 10 digits with no sign, space, point or leading 0",
+        Refusal::FieldRange(_) =>
+            "a number is outside its range; sites are numbered from 0 and must be below the network's number of sites",
         Refusal::TableFull(_) => "there is one leg too many; a sheet has room for 4096",
         _ => "the sheet is not sound",
     }

@@ -34,13 +34,13 @@ returns c =
     let r = sym (c .if-not-is-in-range .ensures tt) in
     let e = ap (λ ns. length (listed ns)) (c .numbers-numbers .ensures) in
     let w : set (c .put-listed-end .last .buffer) (c .put-listed-end .result) 10 ≡ laid (leg-text l) 0 b =
-      lay-leg (c .numbers-numbers .result) b _ _ (omega (arith, c .listed-len .ensures .value)) (c .put-listed-end .ensures .value) (c .put-listed-end .ensures .after)
-      ∙ ap (λ ns. laid (codes "leg" ++ (listed ns ++ (10 ∷ []))) 0 b) (c .numbers-numbers .ensures) in
+    lay-leg (c .numbers-numbers .result) b _ _ (omega (arith, c .listed-len .ensures .value)) (c .put-listed-end .ensures .value) (c .put-listed-end .ensures .after)
+    ∙ ap (λ ns. laid (codes "leg" ++ (listed ns ++ (10 ∷ []))) 0 b) (c .numbers-numbers .ensures) in
     record {
       answer = written-ok l (length b) (c .put-listed-end .result + 1) r (omega (arith, c .listed-len .ensures .value)) (omega (arith, c .put-listed-end .ensures .value));
       after = w;
       reads-back = λ n h.
-        let k : c .put-listed-end .result + 1 ≡ n = cc in
-        let t = text-length (leg-numbers l) in
-        subst (λ x. Written-leg-reads-back (take n x) l) (sym w) (write-back l n b r (omega (arith, c .put-listed-end .ensures .value)));
+          let k : c .put-listed-end .result + 1 ≡ n = cc in
+          let t = text-length (leg-numbers l) in
+          subst (λ x. Written-leg-reads-back (take n x) l) (sym w) (write-back l n b r (omega (arith, c .put-listed-end .ensures .value)));
     }
