@@ -1,4 +1,4 @@
--- The line that tells what a sheet has, or its first refusal. Assumes nothing.
+-- The lines that tell what a sheet has, or its first refusal, and what its plans come to at the least. Assumes nothing.
 use mathlib.Core.List.{List, _++_}
 use Prim.Native.Nat.{ℕ}
 use lib.Chars.{codes}
@@ -7,6 +7,8 @@ use Rattle.std.specs.declared.option.Option.the-variants.{Some, None}
 use Rattle.std.specs.declared.result.Result.{Result}
 use Rattle.std.specs.declared.result.Result.the-variants.{Ok, Err}
 use Rattle.std.specs.Written.{decimal}
+use Rattle.network.specs.declared.estimates.Bound.{Bound}
+use Rattle.network.specs.declared.plans.Plan.{Plan}
 use Rattle.network.specs.declared.refusals.Place.{Place}
 use Rattle.network.specs.declared.refusals.Place.the-variants as place
 use Rattle.network.specs.declared.refusals.Refusal.{Refusal}
@@ -26,3 +28,12 @@ line-at-fault r = line-of (place-of r)
 abbrev pub answer-line : Result Summary Refusal → List ℕ
 answer-line (Ok s) = codes "ok," ++ (decimal (s .network .sites) ++ (codes "," ++ (decimal (s .network .legs) ++ (codes "," ++ decimal (s .plans)))))
 answer-line (Err r) = codes "refuse," ++ (decimal (number-of r) ++ (codes "," ++ decimal (line-at-fault r)))
+
+-- `BROKER,START,GOAL,LIMIT`.
+abbrev pub asked : Plan → List ℕ
+asked p = decimal (p .broker) ++ (codes "," ++ (decimal (p .start) ++ (codes "," ++ (decimal (p .goal) ++ (codes "," ++ decimal (p .limit))))))
+
+-- `bounds,BROKER,START,GOAL,LIMIT,CHEAPEST,FASTEST`, or `unreachable,BROKER,START,GOAL,LIMIT`, with the end byte.
+abbrev pub plan-line : Plan → Option Bound → List ℕ
+plan-line p (Some b) = codes "bounds," ++ (asked p ++ (codes "," ++ (decimal (b .cost) ++ (codes "," ++ (decimal (b .delay) ++ codes "\n")))))
+plan-line p None = codes "unreachable," ++ (asked p ++ codes "\n")

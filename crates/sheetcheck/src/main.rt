@@ -1,13 +1,20 @@
 // Checks a sheet: reads all of standard input, and writes what the sheet has, or its first refusal with the line at fault.
+// Of a sound sheet it then tells, plan by plan, between which figures a route's cost and delay will lie.
 ghost use mathlib.Core.Path.{_≡_};
 ghost use Rattle.std.specs.Of.String.{string-bytes};
 ghost use Rattle.std.specs.Vec.{made};
-ghost use Rattle.sheetcheck.specs.Report.{«answer-line», «line-at-fault»};
-use network::legs::Leg;
+ghost use Rattle.sheetcheck.specs.Report.{«answer-line», «line-at-fault», «plan-line»};
+use network::estimates::Bound;
+use network::legs::*;
+use network::plans::Plan;
 use network::refusals::Place;
 use network::refusals::Refusal;
+use network::tariffs::TotalFee;
+use network::tariffs::TotalFeeTariff;
+use reach::bounds::bounds;
 use sheet::check::Summary;
 use sheet::check::check_sheet;
+use sheet::reader::Reader;
 use std::alloc::AllocError;
 use std::alloc::Global;
 use std::io;
@@ -62,6 +69,45 @@ fn advice(refusal: &Refusal) -> &'static str {
     }
 }
 
+// What a plan's route will cost and take at the least, as one line of text, with its end.
+fn plan_line(heap: Global, plan: &Plan, least: Option<Bound>) -> Result<String, AllocError>
+    ensures { λ r. ⌜ made r (λ text. string-bytes text ≡ plan-line (now (plan .entry)) least) ⌝ }
+{
+    let broker = plan.broker;
+    let start = plan.start;
+    let goal = plan.goal;
+    let limit = plan.limit;
+    match least {
+        Some(Bound { cost, delay }) => {
+            format!(heap, "bounds,{broker},{start},{goal},{limit},{cost},{delay}\n")
+        }
+        None => format!(heap, "unreachable,{broker},{start},{goal},{limit}\n"),
+    }
+}
+
+// The lines of all plans of a sound sheet, whose network and legs are at hand.
+fn plan_lines(heap: Global, sheet: &[u8], table: &mut [Leg]) -> Result<String, AllocError> {
+    let mut text = String::new(heap);
+    let mut costs = vec![in heap; 0u64; 1024]?;
+    let mut delays = vec![in heap; 0u32; 1024]?;
+    let mut network = Network { sites: 0, legs: 0 };
+    let mut reader = Reader::new(sheet);
+    if reader.load(&mut network, table).is_err() {
+        return Ok(text);
+    }
+    // A plan's line is at least one byte long, so there are no more plans than bytes.
+    for _ in 0..sheet.len() {
+        let Ok(Some(plan)) = reader.next(&network) else {
+            break;
+        };
+        let Ok(least) = bounds(&network, table, &TotalFee, plan.start, plan.goal, &mut costs, &mut delays) else {
+            break;
+        };
+        text.push_str(plan_line(heap, &plan, least)?.as_str())?;
+    }
+    Ok(text)
+}
+
 fn run(rt: &LibcRuntime) -> io::Result<()> {
     let heap = rt.alloc();
     let mut sheet = Vec::new(heap);
@@ -78,12 +124,14 @@ fn run(rt: &LibcRuntime) -> io::Result<()> {
     let answer = check_sheet(&sheet, &mut table);
     println!(rt, "sheet,sites,legs,plans")?;
     rt.println(answer_line(heap, &answer)?)?;
-    if let Err(refusal) = answer {
-        let line = line_at_fault(&refusal);
-        let advice = advice(&refusal);
-        eprintln!(rt, "line {line}: {advice}")?;
+    match answer {
+        Ok(_) => rt.print(plan_lines(heap, &sheet, &mut table)?),
+        Err(refusal) => {
+            let line = line_at_fault(&refusal);
+            let advice = advice(&refusal);
+            eprintln!(rt, "line {line}: {advice}")
+        }
     }
-    Ok(())
 }
 
 fn main(rt: LibcRuntime) -> io::Result<()> {
