@@ -34,7 +34,8 @@ unless-leg why (Some j) rest = Some (why j)
 abbrev pub unless : Bool → Refusal → Option Refusal → Option Refusal
 unless passed why rest = cond passed rest (Some why)
 
--- The sizes, then the first leg with a field outside its range, then what else there is to refuse.
+-- The sizes, then the first leg with a field outside its range, then what else there is to refuse. (A call with a limit of its
+-- own tests that before, since it has the number of the sizes.)
 unfoldable pub network-refusal : Network → List Leg → Option Refusal → Option Refusal
 network-refusal net table rest =
     unless (sizes-fit net (length table)) why.Size

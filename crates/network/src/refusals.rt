@@ -34,7 +34,7 @@ pub enum Refusal {
     WrittenLegRange,
     // A site of the question is not in the network.
     Site,
-    // A table is too short or too long, or the queue holds nothing.
+    // A table is too short or too long, or the queue's capacity is 0.
     Room,
     // The estimate at the goal is not 0 and 0.
     GoalEstimate,

@@ -35,6 +35,6 @@ estimate-is-between g u goal costs delays o hc hd near e =
     elim (cases-lt (getD delays u 0) largest-delay) [
       | inl met ↦ subst (Between g u goal) (sym (e ∙ estimate-at-reached costs delays u hc hd met)) (least-cost g u goal _ _ near met, least-delay g u goal _ _ near met)
       | inr cut ↦
-        let whole : getD delays u 0 ≡ largest-delay = omega (arith, delay-at-most-largest g u goal _ _ near) in
-        subst (Between g u goal) (sym (e ∙ estimate-at-cut-off costs delays u whole)) (cut-off-has-no-walk g u goal _ _ near cut)
+          let whole : getD delays u 0 ≡ largest-delay = omega (arith, delay-at-most-largest g u goal _ _ near) in
+          subst (Between g u goal) (sym (e ∙ estimate-at-cut-off costs delays u whole)) (cut-off-has-no-walk g u goal _ _ near cut)
     ]

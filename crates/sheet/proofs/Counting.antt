@@ -18,10 +18,7 @@ use Rattle.sheet.specs.Words.{Kind}
 use Rattle.sheet.specs.Sheets.{and-then, by-plan, next-from, one-more, past, plan-stated, row-kind}
 use Rattle.sheet.specs.Calls.{moved, next-of, rows-left}
 use Rattle.sheet.specs.Check.{on-plan, plans-from}
-use Rattle.sheet.proofs.Loading.{rows-after}
-
-never : {X : Type 0} → _≡_ {A = ℕ} 0 1 → X
-never e = let b : ⊥ = omega arith in absurd b
+use Rattle.sheet.proofs.Loading.{never, rows-after}
 
 -- a line that is known to state something is of a known kind
 known : {Y : Type 0} (k : Result Kind Refusal) (f : Kind → Result Y Refusal) (y : Y) → and-then k f ≡ Ok y → (t : Kind) × (k ≡ Ok t)

@@ -1,11 +1,11 @@
 -- The ways through a line before the plans. Assumes nothing.
-use mathlib.Core.Path.{_≡_, refl, sym, ap, subst, _∙_}
+use mathlib.Core.Path.{_≡_, refl, sym, ap, _∙_}
 use mathlib.Core.Bool.{Bool, true, false, cond}
 use mathlib.Core.List.{List, [], _∷_, _++_}
-use Prim.Native.Nat.{ℕ, zero, suc, _+_, _-_, _<_, _≤_}
+use Prim.Native.Nat.{ℕ, _+_, _<_, _≤_}
 use native.Mathlib.Nat.{add-assoc}
 use native.Mathlib.Omega.{arith}
-use lib.ListN.{length, getD, drop, take, set}
+use lib.ListN.{length, drop, take, set}
 use Rattle.std.specs.declared.option.Option.{Option}
 use Rattle.std.specs.declared.option.Option.the-variants.{Some, None}
 use Rattle.std.specs.declared.result.Result.{Result}
@@ -20,12 +20,13 @@ use Rattle.sheet.specs.Calls.{answered, answer-of, replaced, network-after, re
 use Rattle.sheet.specs.Entries.{leg-entry}
 use Rattle.network.specs.declared.refusals.Refusal.{Refusal}
 use Rattle.network.specs.declared.refusals.Refusal.the-variants.{Unended, UnknownWord, OutOfPlace}
-use Rattle.sheet.specs.Text.{Row, row, lines, fields}
+use Rattle.sheet.specs.Text.{Row, lines, fields}
 use Rattle.sheet.specs.Words.{Kind, kind-by-word, network, leg, plan}
-use Rattle.sheet.specs.Sheets.{Placed, placed, line-ahead, row-kind, past, some-placed, or-refuse, and-then, one-more, leg-stated, with-room, has-room, by-leg, legs-from, load, Load, sized, by-sites, loaded-from, sites-stated, Next, next, next-from, by-plan, plan-stated}
+use Rattle.sheet.specs.Sheets.{placed, line-ahead, row-kind, past, some-placed, or-refuse, and-then, one-more, leg-stated, with-room, has-room, by-leg, legs-from, load, Load, sized, by-sites, loaded-from, sites-stated, Next, next, next-from, by-plan, plan-stated}
 use Rattle.sheet.proofs.Lining.{lines-rest}
 
-never : {X : Type 0} → _≡_ {A = ℕ} 0 1 → X
+-- what follows from two constructors that are equal
+pub never : {X : Type 0} → _≡_ {A = ℕ} 0 1 → X
 never e = let b : ⊥ = omega arith in absurd b
 
 -- what the answer on the line ahead says of the lines that are left
@@ -205,14 +206,6 @@ module _ (room : ℕ) where
 
 -- the ways through a plan line
 module _ (loaded : Bool) (n at line : ℕ) (rows : List Row) where
-  pub next-none : Ok None ≡ line-ahead line at rows → next (cond loaded (Ok None) (Err (OutOfPlace line))) at line ≡ next-from loaded n at line rows
-  next-none e = sym (ap (next-from loaded n at line) (none-left line at rows e))
-
-  pub next-refused : (x : Refusal) → Err x ≡ line-ahead line at rows → next (Err x) at line ≡ next-from loaded n at line rows
-  next-refused x e =
-      let b = refused-line line at rows x e in
-      sym (ap (next-from loaded n at line) (b .2) ∙ ap (λ o. by-plan at line (past at (b .0)) (and-then o (plan-stated loaded n line))) (b .3))
-
   pub next-stated : (t : Kind) (k : ℕ) (o : Result Plan Refusal) → Ok (Some (placed k t)) ≡ line-ahead line at rows → o ≡ plan-stated loaded n line t → by-plan at line k o ≡ next-from loaded n at line rows
   next-stated t k o e h =
       let b = kind-line line at rows t k e in

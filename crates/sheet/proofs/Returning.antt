@@ -1,34 +1,31 @@
 -- What is written reads back. Assumes nothing.
-use mathlib.Core.Path.{_≡_, refl, sym, ap, subst, _∙_}
-use mathlib.Core.Bool.{Bool, true, false, cond, _&&_, _||_}
+use mathlib.Core.Path.{_≡_, refl, sym, ap, _∙_}
+use mathlib.Core.Bool.{Bool, true, false, cond, _||_}
 use mathlib.Core.List.{List, [], _∷_, _++_, map, append-assoc}
 use Prim.Native.Nat.{ℕ, zero, suc, _+_, _-_, _*_, _/_, _%_, _^_, _<_, _≤_}
 use native.Mathlib.Omega.{arith}
-use lib.Dec.{eqb, ltb, leb}
-use lib.ListN.{length, getD, take, drop}
+use lib.Dec.{ltb}
+use lib.ListN.{length, take, drop}
 use lib.Chars.{codes}
 use Rattle.std.specs.Written.{decimal}
-use Rattle.std.specs.declared.option.Option.{Option}
 use Rattle.std.specs.declared.option.Option.the-variants.{Some, None}
-use Rattle.std.specs.declared.result.Result.{Result}
 use Rattle.std.specs.declared.result.Result.the-variants.{Ok, Err}
 use Rattle.std.proofs.shelf.Decimals.{decimal-by-steps, decimal-digit, decimal-some, length-decimal-le, first-decimal}
 use Rattle.std.proofs.shelf.Lists.{append-nil, length-push, take-at}
-use Rattle.std.proofs.shelf.Tests.{and-parts, and-from, cond-true, cond-false, or-from, le-ltb, cases-bool, eq-eqb, lt-ltb, ltb-true, leb-true}
+use Rattle.std.proofs.shelf.Tests.{and-parts, and-from, cond-false, or-from, le-ltb, lt-ltb}
 use Rattle.std.proofs.shelf.Ways.{tells}
 use Rattle.network.specs.declared.legs.Leg.{Leg}
-use Rattle.network.specs.declared.refusals.Refusal.{Refusal}
 use Rattle.sheet.specs.Text.{Row, row, longer, upto, lines, fields, read-on, misshapen, value, values, both}
-use Rattle.sheet.specs.Words.{Kind, leg, network, plan, kind-by-word, after}
-use Rattle.sheet.specs.Numbers.{numbers-of, well-formed}
+use Rattle.sheet.specs.Words.{leg, kind-by-word, after}
+use Rattle.sheet.specs.Numbers.{well-formed}
 use Rattle.network.specs.Legs.{leg-in-range}
 use Rattle.network.proofs.Ranges.{ranges}
-use Rattle.sheet.specs.Entries.{leg-entry, leg-of, checked}
+use Rattle.sheet.specs.Entries.{leg-entry, leg-of, entry-by}
 use Rattle.network.specs.declared.refusals.Refusal.the-variants.{UnknownWord, TableFull}
-use Rattle.sheet.specs.Sheets.{or-refuse, row-kind, past, one-more, leg-stated, with-room, has-room, and-then, by-leg, legs-from, loaded-from, load, Load, sized}
+use Rattle.sheet.specs.Sheets.{or-refuse, row-kind, past, one-more, leg-stated, with-room, has-room, and-then, by-leg, legs-from, loaded-from, load, sized}
 use Rattle.sheet.specs.Writing.{laid, listed, leg-numbers, leg-text}
 use Rattle.sheet.specs.Theorems.{all-in-range, leg-texts, sheet-of, Written-legs-read-back, Written-leg-reads-back}
-use Rattle.sheet.proofs.Cutting.{upto-here, upto-more, fields-here, fields-more}
+use Rattle.sheet.proofs.Cutting.{upto-more, fields-more}
 use Rattle.sheet.proofs.Lining.{lines-here, lines-more}
 
 -- every byte is a digit
@@ -160,8 +157,8 @@ entry-back l line r =
     let ns = leg-numbers l in
     let s = small-leg l r in
     ap (λ fs. leg-entry 1024 line fs) (fields-listed ns s)
-    ∙ ap (λ o. checked line (leg-of 1024) (well-formed o)) (values-decimal ns s)
-    ∙ ap (λ b. checked line (λ vs. cond b (Some l) None) (Ok ns)) r
+    ∙ ap (λ o. entry-by line (leg-of 1024) (well-formed o)) (values-decimal ns s)
+    ∙ ap (λ b. entry-by line (λ vs. cond b (Some l) None) (Ok ns)) r
 
 kind-leg : (l : Leg) → kind-by-word (codes "leg" ++ listed (leg-numbers l)) ≡ Some (leg (listed (leg-numbers l)))
 unfolding upto listed after

@@ -41,6 +41,7 @@ legs-ahead n room r = legs-from n room (r .place) (r .line) [] (rows-left r)
 abbrev pub load-of : List Leg → Reader → Load
 load-of table r = loaded-from (length table) (lines (r .sheet .now))
 
+-- What a load answers, and the network after it.
 abbrev pub answered : Result Network Refusal → Result Unit Refusal
 answered (Ok net) = Ok tt
 answered (Err e) = Err e

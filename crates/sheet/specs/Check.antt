@@ -13,6 +13,7 @@ use Rattle.sheet.specs.declared.check.Summary.{Summary}
 use Rattle.sheet.specs.Text.{Row, lines}
 use Rattle.sheet.specs.Sheets.{row-kind, and-then, plan-stated, one-more, loaded-from, Load}
 
+-- Counting goes on after a plan, and ends at a refusal.
 abbrev pub on-plan : Result Plan Refusal → Result ℕ Refusal → Result ℕ Refusal
 on-plan (Err e) more = Err e
 on-plan (Ok p) more = more
@@ -23,6 +24,7 @@ plans-from loaded n line plans [] = cond loaded (Ok plans) (Err (OutOfPlace line
 plans-from loaded n line plans (r ∷ rs) =
     on-plan (and-then (row-kind line r) (plan-stated loaded n line)) (plans-from loaded n (one-more line) (one-more plans) rs)
 
+-- The sheet's numbers, or the first refusal.
 abbrev pub summed : Network → Result ℕ Refusal → Result Summary Refusal
 summed net (Err e) = Err e
 summed net (Ok plans) = Ok (record { network = net; plans = plans })

@@ -1,6 +1,6 @@
 -- What a line of each kind states: the numbers of its fields, each in its range. Assumes nothing.
 use mathlib.Core.Bool.{Bool, cond, _&&_}
-use mathlib.Core.List.{List, [], _∷_}
+use mathlib.Core.List.{List}
 use Prim.Native.Nat.{ℕ}
 use lib.Dec.{ltb, leb}
 use lib.ListN.{getD}
@@ -38,24 +38,26 @@ plan-of n vs = cond (plan-in-range n (plan-with vs)) (Some (plan-with vs)) None
 abbrev pub sites-of : List ℕ → Option ℕ
 sites-of vs = cond (leb 1 (getD vs 0 0) && leb (getD vs 0 0) 1024) (Some (getD vs 0 0)) None
 
+-- The refusal of a line by the fault of its fields.
 abbrev pub refused-by : ℕ → Fault → Refusal
 refused-by line Count = FieldCount line
 refused-by line Form = FieldForm line
 
+-- The range is tested once the numbers are known.
 abbrev pub in-range : {X : Type 0} → ℕ → Option X → Result X Refusal
 in-range line None = Err (FieldRange line)
 in-range line (Some x) = Ok x
 
-abbrev pub checked : {X : Type 0} → ℕ → (List ℕ → Option X) → Result (List ℕ) Fault → Result X Refusal
-checked line f (Err e) = Err (refused-by line e)
-checked line f (Ok vs) = in-range line (f vs)
+abbrev pub entry-by : {X : Type 0} → ℕ → (List ℕ → Option X) → Result (List ℕ) Fault → Result X Refusal
+entry-by line f (Err e) = Err (refused-by line e)
+entry-by line f (Ok vs) = in-range line (f vs)
 
 -- What a line with these fields states, or its first refusal: their number, then the form of each, then the range of each.
 abbrev pub leg-entry : ℕ → ℕ → List (List ℕ) → Result Leg Refusal
-leg-entry n line fs = checked line (leg-of n) (numbers-of 6 fs)
+leg-entry n line fs = entry-by line (leg-of n) (numbers-of 6 fs)
 
 abbrev pub plan-entry : ℕ → ℕ → List (List ℕ) → Result Plan Refusal
-plan-entry n line fs = checked line (plan-of n) (numbers-of 4 fs)
+plan-entry n line fs = entry-by line (plan-of n) (numbers-of 4 fs)
 
 abbrev pub network-entry : ℕ → List (List ℕ) → Result ℕ Refusal
-network-entry line fs = checked line sites-of (numbers-of 1 fs)
+network-entry line fs = entry-by line sites-of (numbers-of 1 fs)

@@ -1,9 +1,9 @@
 -- What loading and reading plans make of a sheet's lines. Assumes nothing.
-use mathlib.Core.Bool.{Bool, true, false, cond, _&&_}
+use mathlib.Core.Bool.{Bool, cond, _&&_}
 use mathlib.Core.List.{List, [], _∷_, _++_}
 use Prim.Native.Nat.{ℕ, _+_, _-_, _^_, min}
 use lib.Dec.{ltb}
-use lib.ListN.{length, drop}
+use lib.ListN.{length}
 use Rattle.std.specs.declared.option.Option.{Option}
 use Rattle.std.specs.declared.option.Option.the-variants.{Some, None}
 use Rattle.std.specs.declared.result.Result.{Result}
@@ -13,10 +13,11 @@ use Rattle.network.specs.declared.plans.Plan.{Plan}
 use Rattle.network.specs.declared.legs.Network.{Network}
 use Rattle.network.specs.declared.refusals.Refusal.{Refusal}
 use Rattle.network.specs.declared.refusals.Refusal.the-variants.{Unended, UnknownWord, OutOfPlace, TableFull}
-use Rattle.sheet.specs.Text.{Row, lines, fields}
+use Rattle.sheet.specs.Text.{Row, fields}
 use Rattle.sheet.specs.Words.{Kind, network, leg, plan, kind-by-word}
 use Rattle.sheet.specs.Entries.{leg-entry, plan-entry, network-entry}
 
+-- What there is, or a refusal.
 abbrev pub or-refuse : {X : Type 0} → Refusal → Option X → Result X Refusal
 or-refuse e None = Err e
 or-refuse e (Some x) = Ok x
@@ -46,6 +47,7 @@ abbrev pub line-ahead : ℕ → ℕ → List Row → Result (Option (Placed Kind
 line-ahead line at [] = Ok None
 line-ahead line at (r ∷ rs) = some-placed (past at r) (row-kind line r)
 
+-- What follows where nothing is refused.
 abbrev pub and-then : {X Y : Type 0} → Result X Refusal → (X → Result Y Refusal) → Result Y Refusal
 and-then (Err e) f = Err e
 and-then (Ok x) f = f x
@@ -60,6 +62,7 @@ sites-stated line (network t) = network-entry line (fields t)
 sites-stated line (leg t) = Err (OutOfPlace line)
 sites-stated line (plan t) = Err (OutOfPlace line)
 
+-- A leg in range is refused where there is no room for it.
 abbrev pub with-room : ℕ → Bool → Result Leg Refusal → Result (Option Leg) Refusal
 with-room line free (Err e) = Err e
 with-room line free (Ok l) = cond free (Ok (Some l)) (Err (TableFull line))
@@ -93,6 +96,7 @@ sized n ls = record { sites = n; legs = length ls }
 abbrev pub has-room : ℕ → ℕ → Bool
 has-room room m = ltb m room && ltb m 4096
 
+-- How reading goes on: with one more leg, at the end of the legs, or by a refusal.
 abbrev pub by-leg : Result (Option Leg) Refusal → (Leg → Load) → Load → (Refusal → Load) → Load
 by-leg (Err e) go done refused = refused e
 by-leg (Ok None) go done refused = done
@@ -107,6 +111,7 @@ legs-from n room at line ls (r ∷ rs) =
     (load (Ok (sized n ls)) ls at line)
     (λ e. load (Err e) ls at line)
 
+-- The first line is refused, or the legs follow.
 abbrev pub by-sites : Result ℕ Refusal → (ℕ → Load) → Load
 by-sites (Err e) go = load (Err e) [] 0 1
 by-sites (Ok n) go = go n
@@ -125,6 +130,7 @@ pub record Next : Type 0 where
 abbrev pub next : Result (Option Plan) Refusal → ℕ → ℕ → Next
 next r at line = record { answer = r; at = at; line = line }
 
+-- A plan moves the reader on; a refusal leaves it.
 abbrev pub by-plan : ℕ → ℕ → ℕ → Result Plan Refusal → Next
 by-plan at line after (Err e) = next (Err e) at line
 by-plan at line after (Ok p) = next (Ok (Some p)) after (one-more line)

@@ -1,7 +1,7 @@
 // Text cut at a byte, its fields, and the numbers in them.
 ghost use mathlib.Core.Path.{_≡_};
-ghost use Prim.Native.Nat.{ℕ, _+_, _-_, _<_, _≤_, _^_};
-ghost use lib.ListN.{length, drop};
+ghost use Prim.Native.Nat.{_≤_};
+ghost use lib.ListN.{length};
 ghost use Rattle.sheet.specs.Numbers.{«numbers-of»};
 ghost use Rattle.sheet.specs.Text.{upto, fields, value, seen, «head-of», «tail-of»};
 

@@ -3,7 +3,8 @@
 ghost use mathlib.Core.Path.{_≡_};
 ghost use Rattle.std.specs.Of.String.{string-bytes};
 ghost use Rattle.std.specs.Vec.{made};
-ghost use Rattle.sheetcheck.specs.Report.{«answer-line», «line-at-fault», «plan-line»};
+ghost use Rattle.sheet.specs.Check.{checked};
+ghost use Rattle.sheetcheck.specs.Lines.{«answer-line», «asked-by», «line-at-fault», «plan-line», «top-lines», Tells};
 use network::estimates::Bound;
 use network::legs::*;
 use network::plans::Plan;
@@ -49,39 +50,48 @@ fn answer_line(heap: Global, answer: &Result<Summary, Refusal>) -> Result<String
     }
 }
 
-// What is wrong with the line, for whoever typed it.
+// What is wrong, for whoever typed the sheet.
 fn advice(refusal: &Refusal) -> &'static str {
     match refusal {
         Refusal::Unended(_) =>
-            "the line is cut off; every line, the last one too, must end with a line break",
+            "the line is cut off; every line, the last one too, must end with a line feed",
         Refusal::UnknownWord(_) =>
-            "the line must begin with the word network, leg or plan, then a comma",
-        Refusal::OutOfPlace(_) =>
-            "a line of this kind may not stand here; the network line comes first and once, then all legs, then all plans",
+            "the line must begin with the word network, leg or plan, in small letters, then a comma",
+        Refusal::OutOfPlace(_) => {
+            "the line is missing or out of order; a sheet has one network line, which comes first, then all its legs, then all its plans"
+        }
         Refusal::FieldCount(_) =>
             "the number of fields is wrong; network has 1 field after its word, leg has 6, plan has 4",
-        Refusal::FieldForm(_) =>
-            "a field is not a plain number; write 1 to 10 digits with no sign, space, point or leading 0",
-        Refusal::FieldRange(_) =>
-            "a number is outside its range; sites are numbered from 0 and must be below the network's number of sites",
+        Refusal::FieldForm(_) => {
+            "a field is not a plain number; write 1 to 10 digits with no sign, space, point, leading 0 or carriage return"
+        }
+        Refusal::FieldRange(_) => {
+            "a number is out of range; sites 1 to 1024 in a network and below that number elsewhere, fee to 1000000, grade to 255, delay to 100000, medium to 7, broker to 999, limit to 1000000"
+        }
         Refusal::TableFull(_) => "there is one leg too many; a sheet has room for 4096",
         _ => "the sheet is not sound",
     }
+}
+
+// What a plan asks for.
+fn asked(heap: Global, plan: &Plan) -> Result<String, AllocError>
+    ensures { λ r. ⌜ made r (λ text. string-bytes text ≡ asked-by (now (plan .entry))) ⌝ }
+{
+    let broker = plan.broker;
+    let start = plan.start;
+    let goal = plan.goal;
+    let limit = plan.limit;
+    format!(heap, "{broker},{start},{goal},{limit}")
 }
 
 // What a plan's route will cost and take at the least, as one line of text, with its end.
 fn plan_line(heap: Global, plan: &Plan, least: Option<Bound>) -> Result<String, AllocError>
     ensures { λ r. ⌜ made r (λ text. string-bytes text ≡ plan-line (now (plan .entry)) least) ⌝ }
 {
-    let broker = plan.broker;
-    let start = plan.start;
-    let goal = plan.goal;
-    let limit = plan.limit;
+    let asked = asked(heap, plan)?;
     match least {
-        Some(Bound { cost, delay }) => {
-            format!(heap, "bounds,{broker},{start},{goal},{limit},{cost},{delay}\n")
-        }
-        None => format!(heap, "unreachable,{broker},{start},{goal},{limit}\n"),
+        Some(Bound { cost, delay }) => format!(heap, "bounds,{asked},{cost},{delay}\n"),
+        None => format!(heap, "unreachable,{asked}\n"),
     }
 }
 
@@ -100,7 +110,15 @@ fn plan_lines(heap: Global, sheet: &[u8], table: &mut [Leg]) -> Result<String, A
         let Ok(Some(plan)) = reader.next(&network) else {
             break;
         };
-        let Ok(least) = bounds(&network, table, &TotalFee, plan.start, plan.goal, &mut costs, &mut delays) else {
+        let Ok(least) = bounds(
+            &network,
+            table,
+            &TotalFee,
+            plan.start,
+            plan.goal,
+            &mut costs,
+            &mut delays,
+        ) else {
             break;
         };
         text.push_str(plan_line(heap, &plan, least)?.as_str())?;
@@ -108,10 +126,29 @@ fn plan_lines(heap: Global, sheet: &[u8], table: &mut [Leg]) -> Result<String, A
     Ok(text)
 }
 
-fn run(rt: &LibcRuntime) -> io::Result<()> {
-    let heap = rt.alloc();
-    let mut sheet = Vec::new(heap);
-    rt.stdin().read_to_end(&mut sheet)?;
+// What is written of a sheet: the text, and the answer that it tells.
+#[derive(Drop)]
+struct Findings {
+    text: String,
+    answer: Result<Summary, Refusal>,
+}
+
+// The header and the answer, each as a line of text.
+fn top_lines(heap: Global, answer: &Result<Summary, Refusal>) -> Result<String, AllocError>
+    ensures { λ r. ⌜ made r (λ text. string-bytes text ≡ top-lines (now (answer .entry))) ⌝ }
+{
+    let mut text = String::from_str(heap, "sheet,sites,legs,plans\n")?;
+    text.push_str(answer_line(heap, answer)?.as_str())?;
+    text.push_str("\n")?;
+    Ok(text)
+}
+
+// Checks a sheet with room for 4,096 legs, and tells what it has or its first refusal; of a sound sheet the lines of its
+// plans follow.
+fn report(heap: Global, sheet: &[u8]) -> Result<Findings, AllocError>
+    ensures answer { λ r. ⌜ made r (λ t. t .answer ≡ checked 4096 (now (sheet .entry))) ⌝ }
+    ensures text { λ r. ⌜ made r (λ t. Tells (t .answer) (string-bytes (t .text))) ⌝ }
+{
     let blank = Leg {
         tail: 0,
         head: 0,
@@ -121,17 +158,28 @@ fn run(rt: &LibcRuntime) -> io::Result<()> {
         medium: 0,
     };
     let mut table = vec![in heap; blank; 4096]?;
-    let answer = check_sheet(&sheet, &mut table);
-    println!(rt, "sheet,sites,legs,plans")?;
-    rt.println(answer_line(heap, &answer)?)?;
-    match answer {
-        Ok(_) => rt.print(plan_lines(heap, &sheet, &mut table)?),
-        Err(refusal) => {
-            let line = line_at_fault(&refusal);
-            let advice = advice(&refusal);
-            eprintln!(rt, "line {line}: {advice}")
-        }
+    let answer = check_sheet(sheet, &mut table);
+    let mut text = top_lines(heap, &answer)?;
+    if answer.is_err() {
+        return Ok(Findings { text, answer });
     }
+    let plans = plan_lines(heap, sheet, &mut table)?;
+    text.push_str(plans.as_str())?;
+    Ok(Findings { text, answer })
+}
+
+fn run(rt: &LibcRuntime) -> io::Result<()> {
+    let heap = rt.alloc();
+    let mut sheet = Vec::new(heap);
+    rt.stdin().read_to_end(&mut sheet)?;
+    let report = report(heap, &sheet)?;
+    rt.print(report.text.as_str())?;
+    if let Err(refusal) = report.answer {
+        let line = line_at_fault(&refusal);
+        let advice = advice(&refusal);
+        let _ = eprintln!(rt, "line {line}: {advice}");
+    }
+    Ok(())
 }
 
 fn main(rt: LibcRuntime) -> io::Result<()> {

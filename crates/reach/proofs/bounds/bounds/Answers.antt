@@ -17,7 +17,7 @@ returns g c =
     let a = reach-accepted (c .args .network .now) (c .args .table .now) _ _ _ (not-refused _ (h .answer)) in
     record {
       answer = estimate-is-between _ _ _ _ _ _
-        (omega (arith, a .costs-hold, c .reach .kept .costs, c .if-start-network .left)) (omega (arith, a .delays-hold, c .reach .kept .delays, c .if-start-network .left))
-        (h .tables .nearest (c .args .start) (c .if-start-network .left)) (c .at .ensures);
+          (omega (arith, a .costs-hold, c .reach .kept .costs, c .if-start-network .left)) (omega (arith, a .delays-hold, c .reach .kept .delays, c .if-start-network .left))
+          (h .tables .nearest (c .args .start) (c .if-start-network .left)) (c .at .ensures);
       tables = h .tables;
     }

@@ -1,10 +1,8 @@
 use mathlib.Core.Path.{_≡_, refl, sym, ap, _∙_}
-use Rattle.std.specs.declared.option.Option.the-variants.{Some, None}
 use Rattle.std.specs.declared.result.Result.the-variants.{Ok, Err}
 use Rattle.std.proofs.shelf.Results.{err-from-errBy}
-use Rattle.sheet.specs.Sheets.{next}
 use Rattle.sheet.specs.Calls.{rows-left, line-shown}
-use Rattle.sheet.proofs.Loading.{next-done, next-none, next-refused, next-stated}
+use Rattle.sheet.proofs.Loading.{next-done, next-stated}
 use Rattle.sheet.proofs.reader.Reader.next.Needs as need
 
 pub returns-in-Break-plan : need.returns-in-Break-plan
