@@ -1,5 +1,5 @@
 -- Tables that are nearest make a lawful estimate, whatever code wrote them. Assumes nothing.
-use mathlib.Core.Path.{_≡_, refl, ap, _∙_}
+use mathlib.Core.Path.{_≡_, refl, sym, ap, subst, _∙_}
 use mathlib.Core.Bool.{true}
 use mathlib.Core.List.{List, _∷_}
 use mathlib.Core.Logic.{_⊎_, inl, inr}
@@ -15,8 +15,8 @@ use Rattle.network.specs.declared.estimates.Bound.{Bound}
 use Rattle.network.specs.Walks.{Graph, leg-at}
 use Rattle.network.specs.Estimates.{tables-at, ends-keep-rules, leg-keeps-rules, Lawful-towards}
 use Rattle.network.proofs.Walking.{Regular, walk-cost-first, walk-delay-first}
-use Rattle.reach.specs.Reaches.{largest-delay, Nearest}
-use Rattle.reach.proofs.Records.{least-cost, least-delay, delay-at-most-largest, walk-reaches, walk-costs-no-less, walk-takes-no-less, goal-is-nearest}
+use Rattle.reach.specs.Reaches.{largest-delay, Nearest, Between}
+use Rattle.reach.proofs.Records.{least-cost, least-delay, cut-off-has-no-walk, delay-at-most-largest, walk-reaches, walk-costs-no-less, walk-takes-no-less, goal-is-nearest}
 
 -- the estimate at a site of both tables: the pair of its records where it is reached, and none where it is cut off
 module _ (costs delays : List ℕ) (u : ℕ) where
@@ -28,6 +28,16 @@ module _ (costs delays : List ℕ) (u : ℕ) where
   estimate-at-cut-off h =
       cond-false _ (Some (record { cost = getD costs u 0; delay = getD delays u 0 })) None
       (and-right (ltb u (length costs)) _ (and-right (ltb u (length delays)) _ (not-from-true _ (eq-eqb _ _ h))))
+
+-- where the records of the site are nearest, its estimate is the least cost and the least delay, or none for no walk
+pub estimate-is-between : (g : Graph) (u goal : ℕ) (costs delays : List ℕ) → u < length costs → u < length delays → Nearest g u goal (getD costs u 0) (getD delays u 0) → Between g u goal (tables-at costs delays u)
+estimate-is-between g u goal costs delays hc hd near =
+    elim (cases-lt (getD delays u 0) largest-delay) [
+      | inl met ↦ subst (Between g u goal) (sym (estimate-at-reached costs delays u hc hd met)) (least-cost g u goal _ _ near met, least-delay g u goal _ _ near met)
+      | inr cut ↦
+          let whole : getD delays u 0 ≡ largest-delay = omega (arith, delay-at-most-largest g u goal _ _ near) in
+          subst (Between g u goal) (sym (estimate-at-cut-off costs delays u whole)) (cut-off-has-no-walk g u goal _ _ near cut)
+    ]
 
 module _ (g : Graph) (n goal : ℕ) (reg : Regular g n) (costs delays : List ℕ) (nearest : (u : ℕ) → u < n → Nearest g u goal (getD costs u 0) (getD delays u 0)) where
   -- a leg before the least walk from its head is a walk from its tail, which comes to no less than the tail's records

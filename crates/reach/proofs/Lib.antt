@@ -7,4 +7,3 @@ mod Settling
 pub mod Records
 pub mod Estimating
 mod Wholes
-mod Bounding

@@ -18,9 +18,9 @@ use Rattle.network.specs.Walks.{graph, no-leg}
 use Rattle.network.specs.Checks.{legs-of}
 use Rattle.network.specs.Estimates.{tables-at, Lawful-towards}
 use Rattle.network.proofs.Walking.{network-regular}
-use Rattle.reach.specs.Reaches.{Nearest, Written}
+use Rattle.reach.specs.Reaches.{Nearest, Written, Between}
 use Rattle.reach.proofs.Refusing.{Accepted}
-use Rattle.reach.proofs.Estimating.{nearest-is-lawful}
+use Rattle.reach.proofs.Estimating.{nearest-is-lawful, estimate-is-between}
 
 part-long : {X : Type 0} (n : ℕ) (xs : List X) → n ≤ length xs → length (take (n - 0) xs) ≡ n
 part-long n xs h = length-take-le (n - 0) xs (omega arith) ∙ sub-zero n
@@ -81,3 +81,8 @@ module _ (net : Network) (table : List Leg) (goal : ℕ) (costs delays : List �
     tables-lawful lawful =
         nearest-is-lawful (graph t (legs-of net table)) n goal (network-regular t net table lawful (a .sound)) costs′ delays′ nearest
         (omega (arith, length-append xs (postOf 0 (n - 0) costs), long-costs)) (omega (arith, length-append ys (postOf 0 (n - 0) delays), long-delays)) (a .goal-is-site)
+
+    pub tables-least : (u : ℕ) → u < n → Between (graph t (legs-of net table)) u goal (tables-at costs′ delays′ u)
+    tables-least u h =
+        estimate-is-between (graph t (legs-of net table)) u goal costs′ delays′
+        (omega (arith, length-append xs (postOf 0 (n - 0) costs), long-costs)) (omega (arith, length-append ys (postOf 0 (n - 0) delays), long-delays)) (nearest u h)

@@ -1,3 +1,2 @@
-// Reach: the least cost and the least delay to a goal, and between two sites.
-pub mod bounds;
+// Reach: the least cost and the least delay to a goal.
 pub mod tables;

@@ -32,7 +32,7 @@ ghost use Rattle.network.specs.Legs.{«leg-in-range»};
 ghost use Rattle.network.specs.Checks.{«legs-of»};
 ghost use Rattle.network.specs.Walks.{Graph, graph, «no-leg»};
 ghost use Rattle.network.specs.Estimates.{«tables-at», «Lawful-towards»};
-ghost use Rattle.reach.specs.Reaches.{«reach-refusal», «answer-by», Nearest, Written};
+ghost use Rattle.reach.specs.Reaches.{«reach-refusal», «answer-by», Nearest, Written, Between};
 ghost use Rattle.reach.specs.Passes.{lowered, lowers, relaxed, relaxes, passed, changes};
 use network::estimates::Bound;
 use network::legs::*;
@@ -139,8 +139,8 @@ fn settle<T: Tariff>(legs: &[Leg], tariff: &T, goal: u16, costs: &mut [u64], del
 }
 
 // Writes, for each site, the least cost and, by itself, the least delay of all walks to the goal, or the largest numbers
-// where there is none; the records beyond the sites stay. What it has written is a lawful estimate towards the goal.
-// Refused, it changes nothing.
+// where there is none; the records beyond the sites stay. Read as an estimate, what it has written is that least cost and
+// least delay of each site, or none where there is no walk, and it is lawful towards the goal. Refused, it changes nothing.
 pub fn reach<T: Tariff>(
     network: &Network,
     table: &[Leg],
@@ -153,6 +153,7 @@ pub fn reach<T: Tariff>(
     ensures tables { λ r. ⌜ Cases r
         (λ _. Written (graph (terms (now (tariff .entry))) (legs-of (now (network .entry)) (now (table .entry)))) (now (network .entry) .sites) goal (now (costs .entry)) (now (delays .entry)) (now (costs .exit)) (now (delays .exit)))
         (λ _. (now (costs .exit) ≡ now (costs .entry)) × (now (delays .exit) ≡ now (delays .entry))) ⌝ }
+    ensures estimate_is_least { λ r. ⌜ made r (λ _. (u : ℕ) → u < now (network .entry) .sites → Between (graph (terms (now (tariff .entry))) (legs-of (now (network .entry)) (now (table .entry)))) u goal (tables-at (now (costs .exit)) (now (delays .exit)) u)) ⌝ }
     ensures estimate_is_lawful { λ r. ⌜ made r (λ _. Lawful-towards (graph (terms (now (tariff .entry))) (legs-of (now (network .entry)) (now (table .entry)))) (tables-at (now (costs .exit)) (now (delays .exit))) goal) ⌝ }
 {
     if let Some(why) = refusal(network, table, goal, costs.len(), delays.len()) {

@@ -2,22 +2,25 @@
 // Of a sound sheet it then tells, plan by plan, between which figures a route's cost and delay will lie.
 ghost use mathlib.Core.Path.{_≡_};
 ghost use Rattle.std.specs.Of.String.{string-bytes};
+ghost use Rattle.std.specs.Of.Vec.{vec-items};
 ghost use Rattle.std.specs.Vec.{made};
+ghost use Rattle.network.specs.Estimates.{«tables-at»};
 ghost use Rattle.sheet.specs.Check.{checked};
 ghost use Rattle.sheetcheck.specs.Lines.{«answer-line», «asked-by», «line-at-fault», «plan-line», «top-lines», Tells};
-use network::estimates::Bound;
+use network::estimates::*;
 use network::legs::*;
 use network::plans::Plan;
 use network::refusals::Place;
 use network::refusals::Refusal;
 use network::tariffs::TotalFee;
 use network::tariffs::TotalFeeTariff;
-use reach::bounds::bounds;
+use reach::tables::reach;
 use sheet::check::Summary;
 use sheet::check::check_sheet;
 use sheet::reader::Reader;
 use std::alloc::AllocError;
 use std::alloc::Global;
+use std::collections::BTreeMap;
 use std::io;
 use std::io::Read;
 
@@ -95,31 +98,60 @@ fn plan_line(heap: Global, plan: &Plan, least: Option<Bound>) -> Result<String, 
     }
 }
 
-// The lines of all plans of a sound sheet, whose network and legs are at hand.
+// The least cost and the least delay to one goal, by site.
+#[derive(Drop)]
+struct Nearest {
+    costs: Vec<u64>,
+    delays: Vec<u32>,
+}
+
+impl Nearest {
+    // The tables towards a goal, which is a site of a sound network.
+    fn to(
+        heap: Global,
+        network: &Network,
+        table: &[Leg],
+        goal: u16,
+    ) -> Result<Nearest, AllocError> {
+        let sites = network.sites as usize;
+        let mut costs = vec![in heap; u64::MAX; sites]?;
+        let mut delays = vec![in heap; u32::MAX; sites]?;
+        let _ = reach(network, table, &TotalFee, goal, &mut costs, &mut delays);
+        Ok(Nearest { costs, delays })
+    }
+
+    // What a walk from a site costs and takes at the least; none where there is no walk.
+    fn from(&self, site: u16) -> Option<Bound>
+        ensures { λ r. ⌜ r ≡ tables-at (vec-items (now (self .entry) .costs)) (vec-items (now (self .entry) .delays)) site ⌝ }
+    {
+        let estimate = Reached {
+            costs: self.costs.as_slice(),
+            delays: self.delays.as_slice(),
+        };
+        estimate.at(site)
+    }
+}
+
+// The lines of all plans of a sound sheet. The tables towards a goal are made once.
 fn plan_lines(heap: Global, sheet: &[u8], table: &mut [Leg]) -> Result<String, AllocError> {
     let mut text = String::new(heap);
-    let mut costs = vec![in heap; 0u64; 1024]?;
-    let mut delays = vec![in heap; 0u32; 1024]?;
     let mut network = Network { sites: 0, legs: 0 };
     let mut reader = Reader::new(sheet);
     if reader.load(&mut network, table).is_err() {
         return Ok(text);
     }
-    // A plan's line is at least one byte long, so there are no more plans than bytes.
+    let mut known = BTreeMap::new(heap);
+    // A plan's line has at least one byte, so there are no more plans than bytes.
     for _ in 0..sheet.len() {
         let Ok(Some(plan)) = reader.next(&network) else {
             break;
         };
-        let Ok(least) = bounds(
-            &network,
-            table,
-            &TotalFee,
-            plan.start,
-            plan.goal,
-            &mut costs,
-            &mut delays,
-        ) else {
-            break;
+        if !known.contains_key(&plan.goal) {
+            known.insert(plan.goal, Nearest::to(heap, &network, table, plan.goal)?)?;
+        }
+        let least = match known.get(&plan.goal) {
+            Some(nearest) => nearest.from(plan.start),
+            None => None,
         };
         text.push_str(plan_line(heap, &plan, least)?.as_str())?;
     }
