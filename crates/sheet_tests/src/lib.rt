@@ -4,7 +4,7 @@ mod tests {
     use network::legs::*;
     use network::plans::*;
     use network::refusals::*;
-    use sheet::check::check_sheet;
+    use sheet::check::*;
     use sheet::reader::Reader;
     use sheet::writing::write_leg;
     use std::test::*;
@@ -114,11 +114,26 @@ mod tests {
                 case(b"network,4\nplan,7,0,3\n", 4, 2),
                 case(b"network,4\nplan,1000,0,3,9\n", 6, 2),
                 case(b"network,4\nplan,7,4,3,9\n", 6, 2),
+                case(b"network,4\nplan,7,0,4,9\n", 6, 2),
                 case(b"network,4\nplan,7,0,3,1000001\n", 6, 2),
                 case(b"network,4\nplan,999,3,3,1000000\n", 0, 0),
                 case(b"network,4\nplan,7,0,3,9\nleg,0,1,2,3,4,0\n", 3, 3),
             ],
         )
+    }
+
+    // What a sound sheet has; a leg's delay is what is stated and the handover delay of its medium.
+    #[test]
+    fn a_sound_sheet() -> Result<(), Fail> {
+        let mut table = [leg(0, 0, 0); 2];
+        let sheet = b"network,7\nleg,6,5,9,3,100,3\nplan,0,0,0,0\nplan,0,6,5,1\nplan,1,2,3,4\n";
+        let network = Network { sites: 7, legs: 1 };
+        check_eq(
+            check_sheet(sheet, &mut table),
+            Ok(Summary { network, plans: 3 }),
+        )?;
+        check_eq(table[0].delay(), 120)?;
+        check_eq(table[1], leg(0, 0, 0))
     }
 
     // The legs of accepted lines stand after a refusal, and the network stays; the reader stays at the line.
@@ -162,7 +177,9 @@ mod tests {
         };
         check_eq(reader.next(&narrow), Ok(Some(second)))?;
         check_eq(reader.next(&network), Ok(None))?;
-        check_eq(reader.next(&network), Ok(None))
+        check_eq(reader.next(&network), Ok(None))?;
+        check_eq(reader.load(&mut network, &mut []), Ok(()))?;
+        check_eq(reader.next(&network), Ok(Some(first)))
     }
 
     // An exactly long buffer is enough, what lies beyond the line stays, and so does the whole buffer of a refused call.

@@ -1,0 +1,2 @@
+mod Sifting
+mod Placing

@@ -1,0 +1,4 @@
+pub mod Problem
+pub mod Steps
+pub mod Traces
+pub mod Series
