@@ -3,7 +3,7 @@ ghost use mathlib.Core.Path.{_≡_};
 ghost use lib.ListN.{length};
 ghost use Rattle.sheet.specs.Calls.{«answer-of», fronted, «line-shown», «legs-ahead», «load-of», «network-after», «next-of», moved, «reader-after», «rows-left»};
 ghost use Rattle.sheet.specs.Words.{«line-kind»};
-ghost use Rattle.sheet.specs.Sheets.{«line-ahead», «leg-stated», «sites-stated», «plan-stated»};
+ghost use Rattle.sheet.specs.Sheets.{«line-ahead», «leg-stated», «one-more», «sites-stated», «plan-stated»};
 use crate::entries::*;
 use crate::reader::Reader;
 use crate::text::find;
@@ -82,6 +82,14 @@ impl<'a> Reader<'a> {
         }))
     }
 
+    // Goes on to the next line, which begins at the place `after`.
+    fn go_on(&mut self, after: usize)
+        ensures { λ _. ⌜ now (self .exit) ≡ moved (now (self .entry)) after (one-more (now (self .entry) .line)) ⌝ }
+    {
+        self.place = after;
+        self.line = self.line.saturating_add(1);
+    }
+
     // Reads legs into the front of the table, up to a plan line or the end of the sheet.
     fn read_legs(&mut self, sites: u16, table: &mut [Leg]) -> Result<Network, Refusal>
         ensures answer { λ r. ⌜ r ≡ legs-ahead sites (length (now (table .entry))) (now (self .entry)) .outcome ⌝ }
@@ -96,8 +104,7 @@ impl<'a> Reader<'a> {
             };
             table[m as usize] = leg;
             m += 1;
-            self.place = ahead.after;
-            self.line = self.line.saturating_add(1);
+            self.go_on(ahead.after);
         }
         Ok(Network { sites, legs: m })
     }
@@ -118,8 +125,7 @@ impl<'a> Reader<'a> {
             return Err(Refusal::OutOfPlace(1));
         };
         let sites = sites_on(first.line, 1)?;
-        self.place = first.after;
-        self.line = 2;
+        self.go_on(first.after);
         let stated = self.read_legs(sites, table)?;
         *network = stated;
         self.loaded = true;
@@ -139,8 +145,7 @@ impl<'a> Reader<'a> {
             return Ok(None);
         };
         let plan = plan_on(ahead.line, self.loaded, network.sites, self.line)?;
-        self.place = ahead.after;
-        self.line = self.line.saturating_add(1);
+        self.go_on(ahead.after);
         Ok(Some(plan))
     }
 }

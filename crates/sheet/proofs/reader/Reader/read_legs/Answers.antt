@@ -1,15 +1,15 @@
-use mathlib.Core.Path.{_≡_, sym, ap, _∙_}
+use mathlib.Core.Path.{_≡_, refl, sym, ap, _∙_}
 use mathlib.Core.Bool.{true}
-use Prim.Native.Nat.{_<_}
+use Prim.Native.Nat.{_+_, _<_}
 use native.Mathlib.Omega.{arith}
-use lib.ListN.{length, length-set}
+use lib.ListN.{length, length-set, set, take}
 use Rattle.std.specs.declared.option.Option.the-variants.{Some}
 use Rattle.std.specs.declared.result.Result.the-variants.{Ok, Err}
 use Rattle.std.proofs.shelf.Results.{err-from-errBy}
 use Rattle.std.proofs.shelf.Ways.{tells}
-use Rattle.sheet.specs.Sheets.{has-room, leg-stated}
+use Rattle.sheet.specs.Sheets.{has-room, leg-stated, legs-from, one-more}
 use Rattle.sheet.specs.Words.{line-kind}
-use Rattle.sheet.specs.Calls.{moved, line-shown}
+use Rattle.sheet.specs.Calls.{moved, line-shown, rows-left}
 use Rattle.sheet.proofs.Loading.{legs-done, legs-refused, table-end, table-stop, table-bad, table-go, stated-free, front-more}
 use Rattle.sheet.proofs.reader.Reader.read_legs.Needs as need
 
@@ -42,8 +42,12 @@ loop-ahead-again c =
       omega arith,
       simp length-set (omega arith),
       front-more _ _ _ _ lt (c .loop-ahead .inv .2),
-      ap (λ s. moved s (c .in-Some .ahead .after) (c .saturating-add-self .result)) (c .loop-ahead .inv .3),
-      table-go _ _ _ (c .loop-ahead .self) (c .loop-ahead .table) (c .loop-ahead .inv .1) _ _ _ (ap (λ o. line-shown (Ok o)) (sym (c .in-Some .is)) ∙ c .in-Continue-ahead .ensures tt) f _ _ lt h (c .saturating-add-self .ensures) ∙ c .loop-ahead .inv .4,
+      c .go-on .ensures
+          ∙ ap (λ s. moved s (c .in-Some .ahead .after) (one-more (c .loop-ahead .self .line))) (c .loop-ahead .inv .3)
+          ∙ sym (ap (λ s. moved (c .args .self .now) (s .place) (s .line)) (c .go-on .ensures)),
+      ap (λ s. legs-from (c .args .sites) (length (c .args .table .now)) (s .place) (s .line) (take (c .loop-ahead .m + 1) (set (c .loop-ahead .table) (c .loop-ahead .m) (c .in-Some-2 .leg))) (rows-left s)) (c .go-on .ensures)
+          ∙ table-go _ _ _ (c .loop-ahead .self) (c .loop-ahead .table) (c .loop-ahead .inv .1) _ _ _ (ap (λ o. line-shown (Ok o)) (sym (c .in-Some .is)) ∙ c .in-Continue-ahead .ensures tt) f _ _ lt h refl
+          ∙ c .loop-ahead .inv .4,
     )
 
 pub returns-in-rest-2 : need.returns-in-rest-2
