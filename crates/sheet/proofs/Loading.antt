@@ -22,7 +22,7 @@ use Rattle.network.specs.declared.refusals.Refusal.{Refusal}
 use Rattle.network.specs.declared.refusals.Refusal.the-variants.{Unended, UnknownWord, OutOfPlace}
 use Rattle.sheet.specs.Text.{Row, lines, fields}
 use Rattle.sheet.specs.Words.{Kind, kind-by-word, network, leg, plan}
-use Rattle.sheet.specs.Sheets.{placed, line-ahead, row-kind, past, some-placed, or-refuse, and-then, one-more, leg-stated, with-room, has-room, by-leg, legs-from, load, Load, sized, by-sites, loaded-from, sites-stated, Next, next, next-from, by-plan, plan-stated}
+use Rattle.sheet.specs.Sheets.{placed, line-ahead, row-kind, past, some-placed, or-refuse, and-then, one-more, leg-stated, with-room, has-room, by-leg, legs-from, load, Load, sized, by-sites, loaded-from, sites-stated, Next, next-from, by-plan, plan-stated}
 use Rattle.sheet.proofs.Lining.{lines-rest}
 
 -- what follows from two constructors that are equal

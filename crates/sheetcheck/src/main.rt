@@ -1,10 +1,16 @@
 // Checks a sheet: reads all of standard input, and writes what the sheet has, or its first refusal with the line at fault.
-// Of a sound sheet it then tells, plan by plan, between which figures a route's cost and delay will lie.
+// Of a sound sheet it then tells, plan by plan, the least that a route can cost and take.
 ghost use mathlib.Core.Path.{_≡_};
+ghost use Prim.Native.Nat.{ℕ, _<_};
 ghost use Rattle.std.specs.Of.String.{string-bytes};
 ghost use Rattle.std.specs.Of.Vec.{vec-items};
 ghost use Rattle.std.specs.Vec.{made};
+ghost use Rattle.std.specs.Options.{Cases as BySome};
+ghost use Rattle.network.specs.Checks.{«legs-of»};
 ghost use Rattle.network.specs.Estimates.{«tables-at»};
+ghost use Rattle.network.specs.Tariffs.{«total-fee»};
+ghost use Rattle.network.specs.Walks.{graph};
+ghost use Rattle.reach.specs.Reaches.{Between};
 ghost use Rattle.sheet.specs.Check.{checked};
 ghost use Rattle.sheetcheck.specs.Lines.{«answer-line», «asked-by», «line-at-fault», «plan-line», «top-lines», Tells};
 use network::estimates::*;
@@ -100,24 +106,28 @@ fn plan_line(heap: Global, plan: &Plan, least: Option<Bound>) -> Result<String, 
 
 // The least cost and the least delay to one goal, by site.
 #[derive(Drop)]
-struct Nearest {
+struct Tables {
     costs: Vec<u64>,
     delays: Vec<u32>,
 }
 
-impl Nearest {
-    // The tables towards a goal, which is a site of a sound network.
+impl Tables {
+    // The tables towards a goal; none where the network, its legs or the goal are refused.
     fn to(
         heap: Global,
         network: &Network,
         table: &[Leg],
         goal: u16,
-    ) -> Result<Nearest, AllocError> {
+    ) -> Result<Option<Tables>, AllocError>
+        ensures { λ r. ⌜ made r (λ o. BySome o (Unit {0}) (λ t. (u : ℕ) → u < now (network .entry) .sites → Between (graph total-fee (legs-of (now (network .entry)) (now (table .entry)))) u goal (tables-at (vec-items (t .costs)) (vec-items (t .delays)) u))) ⌝ }
+    {
         let sites = network.sites as usize;
         let mut costs = vec![in heap; u64::MAX; sites]?;
         let mut delays = vec![in heap; u32::MAX; sites]?;
-        let _ = reach(network, table, &TotalFee, goal, &mut costs, &mut delays);
-        Ok(Nearest { costs, delays })
+        match reach(network, table, &TotalFee, goal, &mut costs, &mut delays) {
+            Ok(()) => Ok(Some(Tables { costs, delays })),
+            Err(_) => Ok(None),
+        }
     }
 
     // What a walk from a site costs and takes at the least; none where there is no walk.
@@ -147,13 +157,15 @@ fn plan_lines(heap: Global, sheet: &[u8], table: &mut [Leg]) -> Result<String, A
             break;
         };
         if !known.contains_key(&plan.goal) {
-            known.insert(plan.goal, Nearest::to(heap, &network, table, plan.goal)?)?;
+            let Some(tables) = Tables::to(heap, &network, table, plan.goal)? else {
+                break;
+            };
+            known.insert(plan.goal, tables)?;
         }
-        let least = match known.get(&plan.goal) {
-            Some(nearest) => nearest.from(plan.start),
-            None => None,
+        let Some(tables) = known.get(&plan.goal) else {
+            break;
         };
-        text.push_str(plan_line(heap, &plan, least)?.as_str())?;
+        text.push_str(plan_line(heap, &plan, tables.from(plan.start))?.as_str())?;
     }
     Ok(text)
 }
