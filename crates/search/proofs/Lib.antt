@@ -1,0 +1,5 @@
+mod Insides
+mod Trying
+mod Runs
+mod Opens
+mod Traces
