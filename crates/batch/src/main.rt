@@ -1,5 +1,7 @@
 // Answers the plans of a sheet: reads the first 16,384 bytes of standard input, and writes a header, a line for each plan in its
 // order, and, where something is refused, a last line. Then a sentence on standard error tells what is wrong and where.
+#![tactic(auto)]
+
 use report::answers::{SHEET, plan_sheet};
 use sheet::advice::advice;
 use std::io;

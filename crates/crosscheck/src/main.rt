@@ -1,5 +1,7 @@
 // Compares the planner with a second, independent implementation, on a few known cases and on networks drawn from seeds, and
 // prints what was compared and every difference.
+#![tactic(auto)]
+
 mod cases;
 mod comparing;
 mod draws;

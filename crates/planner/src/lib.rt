@@ -1,3 +1,5 @@
 // Plans, served one after another from one tally of steps.
+#![tactic(auto)]
+
 pub mod serving;
 pub mod tally;

@@ -3,6 +3,8 @@
 //
 // `entry` has what a queue holds and the order in which it is handed out, `interface` the trait that every
 // queue keeps, and `sort` a use of it that needs no more than the trait.
+#![tactic(auto)]
+
 pub mod entry;
 pub mod interface;
 pub mod sort;

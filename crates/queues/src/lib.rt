@@ -2,6 +2,8 @@
 //
 // Both keep the trait `Queue` of the crate `queue`, so at one capacity they give the same answers to the
 // same calls, and a search may run over either.
+#![tactic(auto)]
+
 pub mod heap;
 mod place;
 pub mod row;

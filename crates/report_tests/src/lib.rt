@@ -1,4 +1,6 @@
 // Sheets with the text that must answer them, worked out by hand from the rules of sheets, of the search and of the answers.
+#![tactic(auto)]
+
 #[cfg(test)]
 mod tests {
     use planner::tally::Tally;

@@ -1,4 +1,6 @@
 // The search for the cheapest walk within a limit: a label-setting search over a worksheet that it is lent.
+#![tactic(auto)]
+
 mod expanding;
 mod inside;
 mod opening;

@@ -1,4 +1,6 @@
 // Searches on small networks, with what they must come to, worked out by hand from docs/SEARCH.md.
+#![tactic(auto)]
+
 #[cfg(test)]
 mod tests {
     use network::estimates::*;

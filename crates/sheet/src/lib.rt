@@ -1,4 +1,6 @@
 // Sheets: a network, its legs and plans, read from text and written as text.
+#![tactic(auto)]
+
 pub mod advice;
 pub mod check;
 mod entries;

@@ -1,4 +1,6 @@
 // Sheets with what they must come to, worked out from docs/SHEETS.md and docs/REFUSALS.md.
+#![tactic(auto)]
+
 #[cfg(test)]
 mod tests {
     use network::legs::*;

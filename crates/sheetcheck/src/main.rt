@@ -1,5 +1,7 @@
 // Checks a sheet: reads all of standard input, and writes what the sheet has, or its first refusal with the line at fault.
 // Of a sound sheet it then tells, plan by plan, the least that a route can cost and take.
+#![tactic(auto)]
+
 ghost use Rattle.std.specs.Prelude.{◌≡◌, ℕ, ◌<◌, IfSome, IfOk, string_bytes};
 ghost use Rattle.network.specs.Checks.{legs_of};
 ghost use Rattle.network.specs.Estimates.{tables_at};
