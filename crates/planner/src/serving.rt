@@ -42,9 +42,9 @@ pub fn serve<Q: Queue, T: Tariff>(
     search: &mut Search,
     tally: &mut Tally,
 ) -> Result<Verdict, Refusal>
-    ensures serves { Serves (ground network.now table.now (terms tariff.now) (room queue.old)) plan (desk costs.old delays.old (worksheet search.old labels.old least.old (bag queue.old)) tally.old) result (desk costs.new delays.new (worksheet search.new labels.new least.new (bag queue.new)) tally.new) }
-    ensures fulfils { IfOk result (λ v. Fulfils (ground network.now table.now (terms tariff.now) (room queue.old)) plan (desk costs.old delays.old (worksheet search.old labels.old least.old (bag queue.old)) tally.old) v (desk costs.new delays.new (worksheet search.new labels.new least.new (bag queue.new)) tally.new)) }
-    ensures same_room { room queue.new ≡ room queue.old }
+    ensures serves { Serves (ground network.now table.now (T.terms tariff.now) (Q.room queue.old)) plan (desk costs.old delays.old (worksheet search.old labels.old least.old (Q.bag queue.old)) tally.old) result (desk costs.new delays.new (worksheet search.new labels.new least.new (Q.bag queue.new)) tally.new) }
+    ensures fulfils { IfOk result (λ v. Fulfils (ground network.now table.now (T.terms tariff.now) (Q.room queue.old)) plan (desk costs.old delays.old (worksheet search.old labels.old least.old (Q.bag queue.old)) tally.old) v (desk costs.new delays.new (worksheet search.new labels.new least.new (Q.bag queue.new)) tally.new)) }
+    ensures same_room { Q.room queue.new ≡ Q.room queue.old }
 {
     reach(network, table, tariff, plan.goal, costs, delays)?;
     let estimate = Reached { costs, delays };

@@ -51,8 +51,8 @@ fn answer<Q: Queue, T: Tariff, E: Estimate>(
     tariff: &T,
     estimate: &E,
 ) -> Result<Answer, AllocError>
-    ensures does { IfOk result (λ x. Does (setting network.now table.now (terms tariff.now) (at estimate.now) labels.old least.old (room queue.old)) (worksheet search.old labels.old least.old (bag queue.old)) call x (worksheet search.new labels.new least.new (bag queue.new))) }
-    ensures same_room { room queue.new ≡ room queue.old }
+    ensures does { IfOk result (λ x. Does (setting network.now table.now (T.terms tariff.now) (E.at estimate.now) labels.old least.old (Q.room queue.old)) (worksheet search.old labels.old least.old (Q.bag queue.old)) call x (worksheet search.new labels.new least.new (Q.bag queue.new))) }
+    ensures same_room { Q.room queue.new ≡ Q.room queue.old }
 {
     match call {
         Call::Open(query) => Ok(Answer::Opened(search.open(
@@ -82,11 +82,11 @@ pub fn conduct<Q: Queue, T: Tariff, E: Estimate>(
     estimate: &E,
     events: &mut Vec<Event>,
 ) -> Result<(), AllocError>
-    ensures promised { Promise (setting network.now table.now (terms tariff.now) (at estimate.now) labels.old least.old (room queue.old)) (reverse events.new.items) }
-    ensures conducted { OnOk result ((x : Search) × Conducted (setting network.now table.now (terms tariff.now) (at estimate.now) labels.old least.old (room queue.old)) (worksheet x labels.new least.new (bag queue.new)) (reverse events.new.items)) }
+    ensures promised { Promise (setting network.now table.now (T.terms tariff.now) (E.at estimate.now) labels.old least.old (Q.room queue.old)) (reverse events.new.items) }
+    ensures conducted { OnOk result ((x : Search) × Conducted (setting network.now table.now (T.terms tariff.now) (E.at estimate.now) labels.old least.old (Q.room queue.old)) (worksheet x labels.new least.new (Q.bag queue.new)) (reverse events.new.items)) }
     ensures in_order { map (λ (e : Event). e.call) events.new.items ≡ take (length events.new.items) calls.now }
     ensures all { OnOk result (length events.new.items ≡ length calls.now) }
-    ensures same_room { OnOk result (room queue.new ≡ room queue.old) }
+    ensures same_room { OnOk result (Q.room queue.new ≡ Q.room queue.old) }
 {
     let mut search = Search::new();
     events.clear();

@@ -1,43 +1,29 @@
 -- The order of entries is a strict total order, and both the derived `cmp` and `precedes` answer by it.
 -- Assumes nothing.
 use Rattle.std.proofs.Common.{◌≡◌, ℕ, ◌<◌, ◌≤◌, Bool, true, false, ◌⊎◌, Ordering, Less, Equal, Greater, sym, refl, ap, ◌∙◌, subst, inl, inr, true≢false, arith}
-use Rattle.std.specs.Cmp.{IsTotalOrder, nat_cmp_total, pairs, ranks, then_total, on_total, IsStrictWeakOrder}
+use Rattle.std.specs.Cmp.{IsTotalOrder, nat_cmp_total, nat_cmp_is, ranks, then_total, on_total, IsStrictWeakOrder}
 use Rattle.std.specs.Ordering.{is_lt, is_gt, ordering_reverse, ordering_then, MatchOrdering, nat_cmp}
 use Rattle.std.proofs.HeapSift as Sifts
 use Rattle.queue.specs.declared.entry.Entry.{Entry}
 use Rattle.queue.specs.contracts.entry.EntryOrd.TheImpl.{ghosts}
 use Rattle.queue.specs.Order.{compared, before}
 
--- The derived `cmp` goes on to the next field exactly where this one is the same.
-by_field : (a b : ℕ) (rest : Ordering) (P : Type 0) (r : Ordering) → ((a < b) × (r ≡ Less)) ⊎ (((b < a) × (r ≡ Greater)) ⊎ ((a ≡ b) × P)) → (P → r ≡ rest) → r ≡ ordering_then (nat_cmp a b) rest
-by_field a b rest P r (inl h) k = h.1 ∙ ap (λ o. ordering_then o rest) (nat_cmp_total.says a b Less h.0)
-by_field a b rest P r (inr (inl h)) k = h.1 ∙ ap (λ o. ordering_then o rest) (nat_cmp_total.says a b Greater h.0)
-by_field a b rest P r (inr (inr h)) k = k h.1 ∙ ap (λ o. ordering_then o rest) (nat_cmp_total.says a b Equal h.0)
+-- The order of entries is lawful since that of numbers is: one field, and then the next.
+abbrev pub total : IsTotalOrder compared
+total =
+    then_total (on_total (λ (e : Entry). e.estimate) nat_cmp_total)
+    (then_total (on_total (λ (e : Entry). e.cost) nat_cmp_total)
+    (then_total (on_total (λ (e : Entry). e.delay) nat_cmp_total) (on_total (λ (e : Entry). e.label) nat_cmp_total)))
+
+pub compared_flip : (x y : Entry) → compared x y ≡ ordering_reverse (compared y x)
+compared_flip = total.antisymm
+
+pub compared_trans : (x y z : Entry) → compared x y ≡ Less → compared y z ≡ Less → compared x z ≡ Less
+compared_trans = total.trans
 
 -- What the derived `cmp` answers is `compared`.
 pub cmp_is_compared : (x y : Entry) (r : Ordering) → (r ≡ ghosts.cmp x y) → r ≡ compared x y
-cmp_is_compared x y r h =
-    by_field x.estimate y.estimate _ _ r h
-    (λ h1. by_field x.cost y.cost _ _ r h1
-    (λ h2. by_field x.delay y.delay _ _ r h2
-    (λ h3. nat_cmp_total.says x.label y.label r h3)))
-
--- An entry as nested pairs of numbers, whose order is lawful since that of numbers is.
-abbrev key : Entry → ℕ × (ℕ × (ℕ × ℕ))
-key e = (e.estimate, (e.cost, (e.delay, e.label)))
-
-pub compared_flip : (x y : Entry) → compared x y ≡ ordering_reverse (compared y x)
-compared_flip x y = let keys = pairs nat_cmp_total (then_total (on_total (λ p. p.0) nat_cmp_total) (on_total (λ p. p.1) (then_total (on_total (λ p. p.0) nat_cmp_total) (on_total (λ p. p.1) nat_cmp_total)))) in keys.antisymm (key x) (key y)
-
-pub compared_trans : (x y z : Entry) → compared x y ≡ Less → compared y z ≡ Less → compared x z ≡ Less
-compared_trans x y z = let keys = pairs nat_cmp_total (then_total (on_total (λ p. p.0) nat_cmp_total) (on_total (λ p. p.1) (then_total (on_total (λ p. p.0) nat_cmp_total) (on_total (λ p. p.1) nat_cmp_total)))) in keys.trans (key x) (key y) (key z)
-
-pub compared_alike : (x y z : Entry) → compared x y ≡ Equal → compared x z ≡ compared y z
-compared_alike x y z = let keys = pairs nat_cmp_total (then_total (on_total (λ p. p.0) nat_cmp_total) (on_total (λ p. p.1) (then_total (on_total (λ p. p.0) nat_cmp_total) (on_total (λ p. p.1) nat_cmp_total)))) in keys.congr (key x) (key y) (key z)
-
--- The derived order is total, as std asks of an order.
-abbrev pub total : IsTotalOrder ghosts.cmp
-total = record { cmp = compared; says = cmp_is_compared; flip = compared_flip; trans = compared_trans; alike = compared_alike }
+cmp_is_compared x y r h = h
 
 pub ranked : IsStrictWeakOrder before
 ranked = Sifts.ranks total
@@ -114,10 +100,10 @@ abbrev past_delay : Entry → Entry → Ordering
 past_delay x y = nat_cmp x.label y.label
 
 lesser : (a b : ℕ) (rest : Ordering) → a < b → is_lt (ordering_then (nat_cmp a b) rest) ≡ true
-lesser a b rest h = sym (ap (λ o. is_lt (ordering_then o rest)) (nat_cmp_total.says a b Less h))
+lesser a b rest h = sym (ap (λ o. is_lt (ordering_then o rest)) (nat_cmp_is a b Less h))
 
 level : (a b : ℕ) (rest : Ordering) → a ≡ b → is_lt (ordering_then (nat_cmp a b) rest) ≡ is_lt rest
-level a b rest h = sym (ap (λ o. is_lt (ordering_then o rest)) (nat_cmp_total.says a b Equal h))
+level a b rest h = sym (ap (λ o. is_lt (ordering_then o rest)) (nat_cmp_is a b Equal h))
 
 -- What comes before what, in numbers: the first field that differs decides.
 pub before_by_estimate : (x y : Entry) → x.estimate < y.estimate → before x y ≡ true
@@ -136,7 +122,7 @@ pub before_by_delay : (x y : Entry) → x.estimate ≡ y.estimate → x.cost ≡
 before_by_delay x y h k l = at_cost x y h k ∙ lesser x.delay y.delay (past_delay x y) l
 
 pub before_by_label : (x y : Entry) → x.estimate ≡ y.estimate → x.cost ≡ y.cost → x.delay ≡ y.delay → x.label < y.label → before x y ≡ true
-before_by_label x y h k l m = at_cost x y h k ∙ level x.delay y.delay (past_delay x y) l ∙ sym (ap is_lt (nat_cmp_total.says x.label y.label Less m))
+before_by_label x y h k l m = at_cost x y h k ∙ level x.delay y.delay (past_delay x y) l ∙ sym (ap is_lt (nat_cmp_is x.label y.label Less m))
 
 -- The other way round: where y does not come before x, the first field that differs is less in x.
 pub not_before_estimate : (x y : Entry) → before y x ≡ false → x.estimate ≤ y.estimate

@@ -86,8 +86,8 @@ fn lower_delay(delays: &mut [u32], site: usize, delay: u64) -> bool
 fn relax<T: Tariff>(leg: &Leg, tariff: &T, costs: &mut [u64], delays: &mut [u32]) -> bool
     requires equal_length { length delays.old ≡ length costs.old }
     requires ends_are_sites { (leg.now.tail < length costs.old) × (leg.now.head < length costs.old) }
-    ensures value { result ≡ relaxes (graph (terms tariff.now) []) leg.now (record { costs = costs.entry.now; delays = delays.old }) }
-    ensures after { record { costs = costs.exit.now; delays = delays.new } ≡ relaxed (graph (terms tariff.now) []) leg.now (record { costs = costs.entry.now; delays = delays.old }) }
+    ensures value { result ≡ relaxes (graph (T.terms tariff.now) []) leg.now (record { costs = costs.entry.now; delays = delays.old }) }
+    ensures after { record { costs = costs.exit.now; delays = delays.new } ≡ relaxed (graph (T.terms tariff.now) []) leg.now (record { costs = costs.entry.now; delays = delays.old }) }
 {
     let onward = delays[leg.head as usize];
     if onward == u32::MAX {
@@ -104,8 +104,8 @@ fn relax<T: Tariff>(leg: &Leg, tariff: &T, costs: &mut [u64], delays: &mut [u32]
 fn pass<T: Tariff>(legs: &[Leg], tariff: &T, costs: &mut [u64], delays: &mut [u32]) -> bool
     requires equal_length { length delays.old ≡ length costs.old }
     requires legs_in_range { (j : ℕ) → j < length legs.now → leg_in_range (length costs.old) (slice_index_or legs.now j no_leg) ≡ true }
-    ensures value { result ≡ changes (graph (terms tariff.now) legs.now) legs.now (record { costs = costs.entry.now; delays = delays.old }) }
-    ensures after { record { costs = costs.exit.now; delays = delays.new } ≡ passed (graph (terms tariff.now) legs.now) legs.now (record { costs = costs.entry.now; delays = delays.old }) }
+    ensures value { result ≡ changes (graph (T.terms tariff.now) legs.now) legs.now (record { costs = costs.entry.now; delays = delays.old }) }
+    ensures after { record { costs = costs.exit.now; delays = delays.new } ≡ passed (graph (T.terms tariff.now) legs.now) legs.now (record { costs = costs.entry.now; delays = delays.old }) }
 {
     let mut changed = false;
     for leg in legs {
@@ -123,7 +123,7 @@ fn settle<T: Tariff>(legs: &[Leg], tariff: &T, goal: u16, costs: &mut [u64], del
     requires few_sites { length costs.old ≤ 1024 }
     requires goal_is_site { goal < length costs.old }
     requires legs_in_range { (j : ℕ) → j < length legs.now → leg_in_range (length costs.old) (slice_index_or legs.now j no_leg) ≡ true }
-    ensures { (u : ℕ) → u < length costs.old → Nearest (graph (terms tariff.now) legs.now) u goal (slice_index costs.new u) (slice_index delays.new u) }
+    ensures { (u : ℕ) → u < length costs.old → Nearest (graph (T.terms tariff.now) legs.now) u goal (slice_index costs.new u) (slice_index delays.new u) }
 {
     costs.fill(u64::MAX);
     delays.fill(u32::MAX);
@@ -145,10 +145,10 @@ pub fn reach<T: Tariff>(
 ) -> Result<(), Refusal>
     ensures answer { result ≡ answer_by (reach_refusal network.now table.now goal (length costs.old) (length delays.old)) }
     ensures tables { MatchResult result
-        (λ _. Written (graph (terms tariff.now) (legs_of network.now table.now)) network.now.sites goal costs.old delays.old costs.new delays.new)
+        (λ _. Written (graph (T.terms tariff.now) (legs_of network.now table.now)) network.now.sites goal costs.old delays.old costs.new delays.new)
         (λ _. (costs.new ≡ costs.old) × (delays.new ≡ delays.old)) }
-    ensures estimate_is_least { OnOk result ((u : ℕ) → u < network.now.sites → Between (graph (terms tariff.now) (legs_of network.now table.now)) u goal (tables_at costs.new delays.new u)) }
-    ensures estimate_is_lawful { OnOk result (LawfulTowards (graph (terms tariff.now) (legs_of network.now table.now)) (tables_at costs.new delays.new) goal) }
+    ensures estimate_is_least { OnOk result ((u : ℕ) → u < network.now.sites → Between (graph (T.terms tariff.now) (legs_of network.now table.now)) u goal (tables_at costs.new delays.new u)) }
+    ensures estimate_is_lawful { OnOk result (LawfulTowards (graph (T.terms tariff.now) (legs_of network.now table.now)) (tables_at costs.new delays.new) goal) }
 {
     if let Some(why) = refusal(network, table, goal, costs.len(), delays.len()) {
         return Err(why);

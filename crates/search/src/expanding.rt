@@ -36,7 +36,7 @@ impl Search {
         estimate: &E,
     ) -> Option<Due>
         requires { leg_inside (length least.now) from.site leg ≡ true }
-        ensures { result ≡ due_of (graph (terms tariff.now) []) (at estimate.now) self.now.query.limit least.now parent from number leg }
+        ensures { result ≡ due_of (graph (T.terms tariff.now) []) (E.at estimate.now) self.now.query.limit least.now parent from number leg }
     {
         if leg.tail != from.site {
             return None;
@@ -75,8 +75,8 @@ impl Search {
         least: &[u32],
         queue: &mut Q,
     )
-        ensures after { worksheet self.new labels.new least.now (bag queue.new) ≡ with_state (worksheet self.old labels.old least.now (bag queue.old)) (added (room queue.old) due (worksheet self.old labels.old least.now (bag queue.old)).state) }
-        ensures same_room { room queue.new ≡ room queue.old }
+        ensures after { worksheet self.new labels.new least.now (Q.bag queue.new) ≡ with_state (worksheet self.old labels.old least.now (Q.bag queue.old)) (added (Q.room queue.old) due (worksheet self.old labels.old least.now (Q.bag queue.old)).state) }
+        ensures same_room { Q.room queue.new ≡ Q.room queue.old }
     {
         if self.count >= labels.len() {
             self.phase = Phase::Stopped(Stop::LabelsUsed);
@@ -113,8 +113,8 @@ impl Search {
         estimate: &E,
     )
         requires { leg_inside (length least.now) from.site leg ≡ true }
-        ensures after { worksheet self.new labels.new least.now (bag queue.new) ≡ with_state (worksheet self.old labels.old least.now (bag queue.old)) (tried (room queue.old) (due_of (graph (terms tariff.now) []) (at estimate.now) self.old.query.limit least.now parent from number leg) (worksheet self.old labels.old least.now (bag queue.old)).state) }
-        ensures same_room { room queue.new ≡ room queue.old }
+        ensures after { worksheet self.new labels.new least.now (Q.bag queue.new) ≡ with_state (worksheet self.old labels.old least.now (Q.bag queue.old)) (tried (Q.room queue.old) (due_of (graph (T.terms tariff.now) []) (E.at estimate.now) self.old.query.limit least.now parent from number leg) (worksheet self.old labels.old least.now (Q.bag queue.old)).state) }
+        ensures same_room { Q.room queue.new ≡ Q.room queue.old }
     {
         if let Some(due) = self.due(parent, from, number, leg, least, tariff, estimate) {
             self.add(due, labels, least, queue);
@@ -137,8 +137,8 @@ impl Search {
         requires going { is_open self.old.phase ≡ true }
         requires whole { network.now.legs ≤ length table.now }
         requires inside { every (leg_inside (length least.now) from.site) (legs_of network.now table.now) ≡ true }
-        ensures after { worksheet self.new labels.new least.now (bag queue.new) ≡ with_state (worksheet self.old labels.old least.now (bag queue.old)) (expand_of (problem_of (setting network.now table.now (terms tariff.now) (at estimate.now) labels.old least.now (room queue.old)) (worksheet self.old labels.old least.now (bag queue.old))) parent from 0 (legs_of network.now table.now) (worksheet self.old labels.old least.now (bag queue.old)).state) }
-        ensures same_room { room queue.new ≡ room queue.old }
+        ensures after { worksheet self.new labels.new least.now (Q.bag queue.new) ≡ with_state (worksheet self.old labels.old least.now (Q.bag queue.old)) (expand_of (problem_of (setting network.now table.now (T.terms tariff.now) (E.at estimate.now) labels.old least.now (Q.room queue.old)) (worksheet self.old labels.old least.now (Q.bag queue.old))) parent from 0 (legs_of network.now table.now) (worksheet self.old labels.old least.now (Q.bag queue.old)).state) }
+        ensures same_room { Q.room queue.new ≡ Q.room queue.old }
     {
         let legs = &table[0..network.legs as usize];
         for (i, leg) in legs.iter().enumerate() {

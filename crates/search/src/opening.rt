@@ -33,7 +33,7 @@ fn tables_fit(sites: u16, labels: usize, records: usize, capacity: usize) -> boo
 
 // The estimate at the goal is 0 and 0.
 fn is_reached<E: Estimate>(estimate: &E, goal: u16) -> bool
-    ensures { result ≡ is_reached (at estimate.now goal) }
+    ensures { result ≡ is_reached (E.at estimate.now goal) }
 {
     match estimate.at(goal) {
         Some(bound) => bound.cost == 0 && bound.delay == 0,
@@ -43,8 +43,8 @@ fn is_reached<E: Estimate>(estimate: &E, goal: u16) -> bool
 
 // The estimates at the two ends of a leg keep the rules.
 fn keeps_rules<T: Tariff, E: Estimate>(leg: &Leg, tariff: &T, estimate: &E) -> bool
-    ensures value { result ≡ leg_keeps_rules (graph (terms tariff.now) []) (at estimate.now) leg.now }
-    ensures cost_fits { CostFits (at estimate.now) leg.now.head }
+    ensures value { result ≡ leg_keeps_rules (graph (T.terms tariff.now) []) (E.at estimate.now) leg.now }
+    ensures cost_fits { CostFits (E.at estimate.now) leg.now.head }
 {
     match (estimate.at(leg.tail), estimate.at(leg.head)) {
         (None, head) => head.is_none(),
@@ -59,8 +59,8 @@ fn keeps_rules<T: Tariff, E: Estimate>(leg: &Leg, tariff: &T, estimate: &E) -> b
 // The number of the first leg at which the estimate breaks a rule.
 fn first_unlawful<T: Tariff, E: Estimate>(legs: &[Leg], tariff: &T, estimate: &E) -> Option<u16>
     requires { length legs.now < 2 ^ 16 }
-    ensures value { result ≡ first_failing (leg_keeps_rules (graph (terms tariff.now) []) (at estimate.now)) 0 legs.now }
-    ensures costs_fit { IfNone result (HeadCostsFit (at estimate.now) legs.now) }
+    ensures value { result ≡ first_failing (leg_keeps_rules (graph (T.terms tariff.now) []) (E.at estimate.now)) 0 legs.now }
+    ensures costs_fit { IfNone result (HeadCostsFit (E.at estimate.now) legs.now) }
 {
     for (i, leg) in legs.iter().enumerate() {
         if !keeps_rules(leg, tariff, estimate) {
@@ -81,8 +81,8 @@ fn refusal<Q: Queue, T: Tariff, E: Estimate>(
     tariff: &T,
     estimate: &E,
 ) -> Option<Refusal>
-    ensures value { result ≡ open_refusal (setting network.now table.now (terms tariff.now) (at estimate.now) labels.now least.now (room queue.now)) query }
-    ensures costs_fit { IfNone result (HeadCostsFit (at estimate.now) (legs_of network.now table.now)) }
+    ensures value { result ≡ open_refusal (setting network.now table.now (T.terms tariff.now) (E.at estimate.now) labels.now least.now (Q.room queue.now)) query }
+    ensures costs_fit { IfNone result (HeadCostsFit (E.at estimate.now) (legs_of network.now table.now)) }
 {
     if query.limit > 1_000_000 {
         return Some(Refusal::Size);
@@ -129,10 +129,10 @@ impl Search {
         estimate: &E,
     )
         requires limit_fits { query.limit ≤ 1000000 }
-        requires tables_fit { tables_fit network.now.sites (length labels.old) (length least.old) (room queue.old) ≡ true }
-        ensures after { worksheet self.new labels.new least.new (bag queue.new) ≡ record { query = query; state = opened (problem (setting network.now [] (terms tariff.now) (at estimate.now) labels.old least.old (room queue.old)) query) (worksheet self.old labels.old least.old (bag queue.old)).state } }
-        ensures same_room { room queue.new ≡ room queue.old }
-        ensures cost_fits { CostFits (at estimate.now) query.start }
+        requires tables_fit { tables_fit network.now.sites (length labels.old) (length least.old) (Q.room queue.old) ≡ true }
+        ensures after { worksheet self.new labels.new least.new (Q.bag queue.new) ≡ record { query = query; state = opened (problem (setting network.now [] (T.terms tariff.now) (E.at estimate.now) labels.old least.old (Q.room queue.old)) query) (worksheet self.old labels.old least.old (Q.bag queue.old)).state } }
+        ensures same_room { Q.room queue.new ≡ Q.room queue.old }
+        ensures cost_fits { CostFits (E.at estimate.now) query.start }
     {
         queue.clear();
         *self = Search {
@@ -172,12 +172,12 @@ impl Search {
         tariff: &T,
         estimate: &E,
     ) -> Result<(), Refusal>
-        ensures answered { outcome result (worksheet self.new labels.new least.new (bag queue.new)) ≡ opening (setting network.now table.now (terms tariff.now) (at estimate.now) labels.old least.old (room queue.old)) query (worksheet self.old labels.old least.old (bag queue.old)) }
-        ensures same_room { room queue.new ≡ room queue.old }
+        ensures answered { outcome result (worksheet self.new labels.new least.new (Q.bag queue.new)) ≡ opening (setting network.now table.now (T.terms tariff.now) (E.at estimate.now) labels.old least.old (Q.room queue.old)) query (worksheet self.old labels.old least.old (Q.bag queue.old)) }
+        ensures same_room { Q.room queue.new ≡ Q.room queue.old }
         ensures refused_by_number { MatchResult result
-            (λ _. NoneApplies (setting network.now table.now (terms tariff.now) (at estimate.now) labels.old least.old (room queue.old)) query)
-            (λ why. RefusedBy (setting network.now table.now (terms tariff.now) (at estimate.now) labels.old least.old (room queue.old)) query why) }
-        ensures estimates_fit { OnOk result (CostsFit (problem (setting network.now table.now (terms tariff.now) (at estimate.now) labels.old least.old (room queue.old)) query)) }
+            (λ _. NoneApplies (setting network.now table.now (T.terms tariff.now) (E.at estimate.now) labels.old least.old (Q.room queue.old)) query)
+            (λ why. RefusedBy (setting network.now table.now (T.terms tariff.now) (E.at estimate.now) labels.old least.old (Q.room queue.old)) query why) }
+        ensures estimates_fit { OnOk result (CostsFit (problem (setting network.now table.now (T.terms tariff.now) (E.at estimate.now) labels.old least.old (Q.room queue.old)) query)) }
     {
         if let Some(why) = refusal(
             query, network, table, labels, least, queue, tariff, estimate,

@@ -25,8 +25,8 @@ impl Search {
         tariff: &T,
         estimate: &E,
     ) -> Result<u32, Refusal>
-        ensures answered { outcome result (worksheet self.new labels.new least.new (bag queue.new)) ≡ advancing (setting network.now table.now (terms tariff.now) (at estimate.now) labels.old least.old (room queue.old)) allowance (worksheet self.old labels.old least.old (bag queue.old)) }
-        ensures same_room { room queue.new ≡ room queue.old }
+        ensures answered { outcome result (worksheet self.new labels.new least.new (Q.bag queue.new)) ≡ advancing (setting network.now table.now (T.terms tariff.now) (E.at estimate.now) labels.old least.old (Q.room queue.old)) allowance (worksheet self.old labels.old least.old (Q.bag queue.old)) }
+        ensures same_room { Q.room queue.new ≡ Q.room queue.old }
     {
         if !self.is_open() {
             return Err(Refusal::NotOpen);

@@ -1,6 +1,6 @@
 // One step of a search: a label is taken, and dropped, found to end at the goal, or expanded.
 ghost use Rattle.std.specs.Prelude.{◌≡◌, true, length};
-ghost use Rattle.worksheet.specs.Steps.{step as step_of_lem, is_open};
+ghost use Rattle.worksheet.specs.Steps.{step as step_of, is_open};
 ghost use Rattle.search.specs.Calls.{setting, worksheet, problem_of};
 ghost use Rattle.search.specs.Parts.{all_inside, with_state};
 
@@ -27,8 +27,8 @@ impl Search {
     )
         requires going { is_open self.old.phase ≡ true }
         requires asked { sound ≡ all_inside (length least.old) network.now table.now }
-        ensures after { worksheet self.new labels.new least.new (bag queue.new) ≡ with_state (worksheet self.old labels.old least.old (bag queue.old)) (step_of_lem (problem_of (setting network.now table.now (terms tariff.now) (at estimate.now) labels.old least.old (room queue.old)) (worksheet self.old labels.old least.old (bag queue.old))) (worksheet self.old labels.old least.old (bag queue.old)).state) }
-        ensures same_room { room queue.new ≡ room queue.old }
+        ensures after { worksheet self.new labels.new least.new (Q.bag queue.new) ≡ with_state (worksheet self.old labels.old least.old (Q.bag queue.old)) (step_of (problem_of (setting network.now table.now (T.terms tariff.now) (E.at estimate.now) labels.old least.old (Q.room queue.old)) (worksheet self.old labels.old least.old (Q.bag queue.old))) (worksheet self.old labels.old least.old (Q.bag queue.old)).state) }
+        ensures same_room { Q.room queue.new ≡ Q.room queue.old }
     {
         self.steps = self.steps.saturating_add(1);
         let Some(first) = queue.take() else {

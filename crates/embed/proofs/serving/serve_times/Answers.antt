@@ -11,5 +11,5 @@ returns c =
       fits = record { costs = sized.0; delays = sized.1; least = sized.2; labels = sized.3; tally = refl };
       result = c.serve-result.result;
       served = served_with _ _ _ _ _ sized.4 _ _ _ c.serve-result.ensures.served;
-      told = c.answer-of.ensures;
+      told = c.answer_of.ensures;
     }

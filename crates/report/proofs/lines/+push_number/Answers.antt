@@ -6,4 +6,4 @@ pub returns-then-n-lt10 : goal.returns-then-n-lt10
 returns-then-n-lt10 t c = number_short _ _ _ c.if-n-lt10.true c.in-ok-push.ensures.items
 
 pub returns : goal.returns
-returns t c = number_long _ _ _ _ c.if-n-lt10.false (omega arith) c.in-ok-push-number.ensures c.in-ok-push-2.ensures.items
+returns t c = number_long _ _ _ _ c.if-n-lt10.false (omega arith) c.in-ok-push_number.ensures c.in-ok-push-2.ensures.items

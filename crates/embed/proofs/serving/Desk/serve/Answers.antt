@@ -5,9 +5,9 @@ use Rattle.embed.proofs.serving.Desk.serve.Goals as goal
 
 pub returns : goal.returns
 returns c =
-    let labels = ap length c.deref-mut.ensures.value in
+    let labels = ap length c.deref_mut.ensures.value in
     record {
-      served = served_at _ _ _ c.plan-of.ensures _ _ _ _ _ c.deref-mut.ensures.value _ _ _ _ c.tally-for-tally.ensures _ _ c.serve.ensures.serves c.serve.ensures.fulfils;
+      served = served_at _ _ _ c.plan_of.ensures _ _ _ _ _ c.deref_mut.ensures.value _ _ _ _ c.tally_for-tally.ensures _ _ c.serve.ensures.serves c.serve.ensures.fulfils;
       same_costs = search rules;
       same_delays = search rules;
       same_least = search rules;

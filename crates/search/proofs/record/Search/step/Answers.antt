@@ -5,7 +5,7 @@ use Rattle.search.proofs.record.Search.step.Goals as goal
 pub expand-requires : goal.expand-requires
 expand-requires g c =
     let records = length c.args.least.now in
-    let inside = c.in-Some-label-inside.ensures in
+    let inside = c.in-Some-label_inside.ensures in
     record {
       going = c.requires.going;
       whole = table_whole records c.args.network.now c.args.table.now c.args.self.now.count c.args.labels.now c.in-Some.first.label _ inside;

@@ -6,7 +6,7 @@ use Rattle.sheet.proofs.Counting.{More, count_end, count_refused, count_more}
 use Rattle.sheet.proofs.reader.Reader.count_plans.Goals as goal
 
 -- the facts of a turn that read a plan
-turn : (c : goal.After-saturating-add-plans) → More c.args.network.now.sites c.loop-plans.plans c.loop-plans.self c.next.new.self
+turn : (c : goal.After-saturating_add-plans) → More c.args.network.now.sites c.loop-plans.plans c.loop-plans.self c.next.new.self
 turn c =
     count_more _ _ c.loop-plans.self _ c.in-Some.field-0
     (ap Ok (sym c.in-Some.is) ∙ c.in-ok-next.ensures.answer) c.in-ok-next.ensures.reader
@@ -21,7 +21,7 @@ loop-plans-smaller c = (turn c).fewer
 
 pub loop-plans-preserved : goal.loop-plans-preserved
 loop-plans-preserved c =
-    ap (λ k. plans_from c.next.new.self.loaded c.args.network.now.sites c.next.new.self.line k (rows_left c.next.new.self)) c.saturating-add-plans.ensures
+    ap (λ k. plans_from c.next.new.self.loaded c.args.network.now.sites c.next.new.self.line k (rows_left c.next.new.self)) c.saturating_add-plans.ensures
     ∙ (turn c).same ∙ c.loop-plans.invariant
 
 pub returns : goal.returns

@@ -31,15 +31,15 @@ pub returns-in-err-stated : goal.returns-in-err-stated
 returns-in-err-stated c =
     let p = err_from_is_err_and c.from-residual-in-err-stated.result c.from-residual-in-err-stated.ensures.1 in
     let h = c.in-err-stated.ensures in
-    let o = legs_ahead c.in-ok-sites.sites (length c.args.table.now) c.go-on.new.self in
+    let o = legs_ahead c.in-ok-sites.sites (length c.args.table.now) c.go_on.new.self in
     let go = load_go _ c.args.self.now.sheet.now _ _ (ap (λ o. line_shown (Ok o)) (sym c.in-Some.is) ∙ c.in-ok-first.ensures) _ c.in-ok-sites.ensures in
-    let d = load_done c.args.self.now _ c.args.network.now c.args.table.now _ _ _ _ (ap (legs_ahead _ _) c.go-on.ensures ∙ go) h.answer h.legs (h.reader ∙ ap (λ s. moved s o.at o.line) c.go-on.ensures) in
+    let d = load_done c.args.self.now _ c.args.network.now c.args.table.now _ _ _ _ (ap (legs_ahead _ _) c.go_on.ensures ∙ go) h.answer h.legs (h.reader ∙ ap (λ s. moved s o.at o.line) c.go_on.ensures) in
     record { answer = p.1 ∙ ap Err p.2 ∙ d.0; network = d.1; legs = d.2; reader = d.3 }
 
 pub returns : goal.returns
 returns c =
     let h = c.in-ok-stated.ensures in
-    let o = legs_ahead c.in-ok-sites.sites (length c.args.table.now) c.go-on.new.self in
+    let o = legs_ahead c.in-ok-sites.sites (length c.args.table.now) c.go_on.new.self in
     let go = load_go _ c.args.self.now.sheet.now _ _ (ap (λ o. line_shown (Ok o)) (sym c.in-Some.is) ∙ c.in-ok-first.ensures) _ c.in-ok-sites.ensures in
-    let d = load_done c.args.self.now _ c.args.network.now c.args.table.now _ _ _ _ (ap (legs_ahead _ _) c.go-on.ensures ∙ go) h.answer h.legs (ap (λ s. record { sheet = s.sheet; place = s.place; line = s.line; loaded = true }) (h.reader ∙ ap (λ s. moved s o.at o.line) c.go-on.ensures)) in
+    let d = load_done c.args.self.now _ c.args.network.now c.args.table.now _ _ _ _ (ap (legs_ahead _ _) c.go_on.ensures ∙ go) h.answer h.legs (ap (λ s. record { sheet = s.sheet; place = s.place; line = s.line; loaded = true }) (h.reader ∙ ap (λ s. moved s o.at o.line) c.go_on.ensures)) in
     record { answer = d.0; network = d.1; legs = d.2; reader = d.3 }

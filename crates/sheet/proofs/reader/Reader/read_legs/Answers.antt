@@ -36,10 +36,10 @@ loop-ahead-preserved c =
       omega arith,
       simp length-set (omega arith),
       front_more _ _ _ _ lt c.loop-ahead.invariant.2,
-      c.go-on.ensures
+      c.go_on.ensures
           ∙ ap (λ s. moved s c.in-Some.ahead.after (one_more c.loop-ahead.self.line)) c.loop-ahead.invariant.3
-          ∙ sym (ap (λ s. moved c.args.self.now s.place s.line) c.go-on.ensures),
-      ap (λ s. legs_from c.args.sites (length c.args.table.now) s.place s.line (take (c.loop-ahead.m + 1) (set c.loop-ahead.table c.loop-ahead.m c.in-Some-2.leg)) (rows_left s)) c.go-on.ensures
+          ∙ sym (ap (λ s. moved c.args.self.now s.place s.line) c.go_on.ensures),
+      ap (λ s. legs_from c.args.sites (length c.args.table.now) s.place s.line (take (c.loop-ahead.m + 1) (set c.loop-ahead.table c.loop-ahead.m c.in-Some-2.leg)) (rows_left s)) c.go_on.ensures
           ∙ table_go _ _ _ c.loop-ahead.self c.loop-ahead.table c.loop-ahead.invariant.1 _ _ _ (ap (λ o. line_shown (Ok o)) (sym c.in-Some.is) ∙ c.in-ok-ahead.ensures) f _ _ lt h refl
           ∙ c.loop-ahead.invariant.4,
     )
