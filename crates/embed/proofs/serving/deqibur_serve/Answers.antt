@@ -9,4 +9,4 @@ returns-in-Err c = ends_at_load _ _ (replicate 4096 no_leg) c.new-reader.result 
 pub returns : goal.returns
 returns c =
     let load = c.load.ensures in
-    goes_on _ _ (replicate 4096 no_leg) c.new-reader.result c.new-reader.ensures refl _ c.in-default.not-Err load.answer (record { sites = 0; legs = 0 }) _ load.network _ load.legs _ c.serve_times.ensures _ c.or_short.ensures
+    goes_on _ _ (replicate 4096 no_leg) c.new-reader.result c.new-reader.ensures refl _ c.in_default.not-Err load.answer (record { sites = 0; legs = 0 }) _ load.network _ load.legs _ c.serve_times.ensures _ c.or_short.ensures

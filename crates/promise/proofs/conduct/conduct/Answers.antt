@@ -11,9 +11,9 @@ loop-call-init g c =
 
 pub loop-call-preserved : goal.loop-call-preserved
 loop-call-preserved g c = (
-  c.in-ok-answer.ensures.same_room ∙ c.loop-call.invariant.0,
-  calls_more _ _ _ _ _ _ c.loop-call-test.true c.loop-call.invariant.1 c.in-ok-push.ensures.items refl,
-  conducted_more _ _ _ _ _ _ _ _ c.loop-call.invariant.2 (resized _ _ _ _ _ _ _ _ _ _ c.loop-call.auto.labels c.loop-call.auto.least c.loop-call.invariant.0 _ _ _ _ c.in-ok-answer.ensures.does) c.verdict-after.ensures c.in-ok-push.ensures.items,
+  c.in_ok-answer.ensures.same_room ∙ c.loop-call.invariant.0,
+  calls_more _ _ _ _ _ _ c.loop-call-test.true c.loop-call.invariant.1 c.in_ok-push.ensures.items refl,
+  conducted_more _ _ _ _ _ _ _ _ c.loop-call.invariant.2 (resized _ _ _ _ _ _ _ _ _ _ c.loop-call.auto.labels c.loop-call.auto.least c.loop-call.invariant.0 _ _ _ _ c.in_ok-answer.ensures.does) c.verdict-after.ensures c.in_ok-push.ensures.items,
 )
 
 pub returns : goal.returns
@@ -27,8 +27,8 @@ returns g c =
       same_room = c.loop-call.invariant.0;
     }
 
-pub returns-in-err-answer : goal.returns-in-err-answer
-returns-in-err-answer g c = record {
+pub returns-in_err-answer : goal.returns-in_err-answer
+returns-in_err-answer g c = record {
   promised = calls_keep_the_promise _ (g.met.T.Tariff.lawful c.args.tariff.now) _ _ c.loop-call.invariant.2;
   in_order = (calls_front _ _ _ c.loop-call.auto.call-index-end c.loop-call.invariant.1).1;
   conducted = search rules;
@@ -36,7 +36,7 @@ returns-in-err-answer g c = record {
   same_room = search rules;
 }
 
-pub returns-in-err-push : goal.returns-in-err-push
-returns-in-err-push g c =
-    let same = same_events _ _ _ _ c.in-err-push.ensures.items (calls_keep_the_promise _ (g.met.T.Tariff.lawful c.args.tariff.now) _ _ c.loop-call.invariant.2) (calls_front _ _ _ c.loop-call.auto.call-index-end c.loop-call.invariant.1).1 in
+pub returns-in_err-push : goal.returns-in_err-push
+returns-in_err-push g c =
+    let same = same_events _ _ _ _ c.in_err-push.ensures.items (calls_keep_the_promise _ (g.met.T.Tariff.lawful c.args.tariff.now) _ _ c.loop-call.invariant.2) (calls_front _ _ _ c.loop-call.auto.call-index-end c.loop-call.invariant.1).1 in
     record { promised = same.0; in_order = same.1; conducted = search rules; all = search rules; same_room = search rules }

@@ -7,9 +7,9 @@ returns-in-Ok c = record {
   before = c.deref_mut.result.now;
   after = c.trace.new.buffer;
   answer = _;
-  size = omega (arith, c.deref_mut.ensures.len, c.in-ok-buffer.ensures.len);
+  size = omega (arith, c.deref_mut.ensures.len, c.in_ok-buffer.ensures.len);
   writes = c.in-Ok.ensures;
-  gives = c.truncate.ensures.items ∙ front_of c.in-Ok.count c.in-ok-buffer.buffer.len c.trace.new.buffer c.in-ok-buffer.buffer.items (omega (arith, c.trace.auto.buffer, c.deref_mut.ensures.len));
+  gives = c.truncate.ensures.items ∙ front_of c.in-Ok.count c.in_ok-buffer.buffer.len c.trace.new.buffer c.in_ok-buffer.buffer.items (omega (arith, c.trace.auto.buffer, c.deref_mut.ensures.len));
 }
 
 pub returns-in-Err : goal.returns-in-Err
@@ -17,7 +17,7 @@ returns-in-Err c = record {
   before = c.deref_mut.result.now;
   after = c.trace.new.buffer;
   answer = _;
-  size = omega (arith, c.deref_mut.ensures.len, c.in-ok-buffer.ensures.len);
+  size = omega (arith, c.deref_mut.ensures.len, c.in_ok-buffer.ensures.len);
   writes = c.in-Err.ensures;
   gives = refl;
 }

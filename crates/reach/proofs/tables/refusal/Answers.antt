@@ -7,11 +7,11 @@ pub returns-in-Some : goal.returns-in-Some
 returns-in-Some c = refused_by_network _ _ _ _ _ _ c.in-Some.ensures
 
 pub returns-then-goal-network : goal.returns-then-goal-network
-returns-then-goal-network c = refused_by_site _ _ _ _ _ c.in-default.ensures c.if-goal-network.true
+returns-then-goal-network c = refused_by_site _ _ _ _ _ c.in_default.ensures c.if-goal-network.true
 
 pub returns-then-costs-network : goal.returns-then-costs-network
 returns-then-costs-network c =
-    refused_by_room _ _ _ _ _ c.in-default.ensures c.if-goal-network.false
+    refused_by_room _ _ _ _ _ c.in_default.ensures c.if-goal-network.false
     (elim c.then-costs-network.branch [
       | then-costs-network-via-then-costs-network w ↦ and_left _ _ (lt-leb _ _ w.if-costs-network.true)
       | then-costs-network-via-else-costs-network+then-delays-network w ↦ and_right _ _ (lt-leb _ _ w.if-delays-network.true)

@@ -4,5 +4,5 @@ use Rattle.report.proofs.answers.plan_from.Goals as goal
 
 pub returns : goal.returns
 returns c =
-    let told = c.in-ok-refused.ensures in
-    reports _ _ _ _ _ _ _ (first_bytes c.args.input.now _ 16384 c.min.result c.min.ensures (omega arith)) c.in-ok-text.ensures.items told.0 told.1 told.2 c.in-ok-push_end.ensures
+    let told = c.in_ok-refused.ensures in
+    reports _ _ _ _ _ _ _ (first_bytes c.args.input.now _ 16384 c.min.result c.min.ensures (omega arith)) c.in_ok-text.ensures.items told.0 told.1 told.2 c.in_ok-push_end.ensures

@@ -4,10 +4,10 @@ use Rattle.report.specs.Lines.{plan_line}
 use Rattle.report.proofs.Telling.{less_is_left, line_is, text_more, ends_with_none, ends_with_line, ends_with_plan, leads_on, serves_with, fulfils_with}
 use Rattle.report.proofs.answers.tell_plans.Goals as goal
 
-pub returns-in-default : goal.returns-in-default
-returns-in-default c =
+pub returns-in_default : goal.returns-in_default
+returns-in_default c =
     let told = c.plans.invariant.4 in
-    (told.0, told.1, ends_with_none _ _ _ _ _ _ c.plans.reader _ c.plans.invariant.0 c.plans.invariant.1 told.2 _ c.in-default.is c.in-Ok.ensures.answer)
+    (told.0, told.1, ends_with_none _ _ _ _ _ _ c.plans.reader _ c.plans.invariant.0 c.plans.invariant.1 told.2 _ c.in_default.is c.in-Ok.ensures.answer)
 
 pub returns-in-Err : goal.returns-in-Err
 returns-in-Err c =
@@ -29,7 +29,7 @@ plans-preserved c =
     let room = c.plans.invariant.3 in
     let serves = serves_with _ _ _ _ 1024 room _ _ _ _ c.in-Ok-serve.ensures.serves in
     let kept = fulfils_with _ _ _ _ 1024 room _ _ _ _ c.in-Ok-serve.ensures.fulfils in
-    let line = c.in-ok-tell.ensures in (
+    let line = c.in_ok-tell.ensures in (
       ap (λ (y : Reader). y.loaded) moved ∙ c.plans.invariant.0,
       ap (λ (y : Reader). y.sheet.now) moved ∙ c.plans.invariant.1,
       c.in-Ok-serve.ensures.same_labels ∙ c.plans.invariant.2,

@@ -14,5 +14,5 @@ pub returns : goal.returns
 returns c =
     let load = c.load.ensures in
     IfOk-weaker c.plan_loaded.result _ _
-    (λ end t. (t.0, t.1, goes_on _ _ (replicate 256 no_leg) _ c.new-reader.ensures refl _ c.in-default.not-Err load.answer (record { sites = 0; legs = 0 }) _ load.network _ load.legs _ load.reader _ _ t.2))
+    (λ end t. (t.0, t.1, goes_on _ _ (replicate 256 no_leg) _ c.new-reader.ensures refl _ c.in_default.not-Err load.answer (record { sites = 0; legs = 0 }) _ load.network _ load.legs _ load.reader _ _ t.2))
     c.plan_loaded.ensures

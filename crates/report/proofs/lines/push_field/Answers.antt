@@ -5,4 +5,4 @@ use Rattle.report.proofs.lines.push_field.Goals as goal
 
 pub returns : goal.returns
 returns c =
-    IfOk-weaker c.push_number.result _ _ (λ _ e. two_pieces (vec_items c.args.text.now) _ _ (44 ∷ []) (decimal c.args.n) c.in-ok-push.ensures.items e) c.push_number.ensures
+    IfOk-weaker c.push_number.result _ _ (λ _ e. two_pieces (vec_items c.args.text.now) _ _ (44 ∷ []) (decimal c.args.n) c.in_ok-push.ensures.items e) c.push_number.ensures

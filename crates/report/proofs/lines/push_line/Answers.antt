@@ -5,4 +5,4 @@ use Rattle.report.proofs.lines.push_line.Goals as goal
 pub returns : goal.returns
 returns c =
     line_pieces (vec_items c.args.text.now) _ _ _ _ c.args.word.now c.args.numbers.now c.args.legs.now
-    c.in-ok-extend_from_slice.ensures.items c.in-ok-push_fields.ensures c.in-ok-push_legs.ensures c.in-ok-push.ensures.items
+    c.in_ok-extend_from_slice.ensures.items c.in_ok-push_fields.ensures c.in_ok-push_legs.ensures c.in_ok-push.ensures.items

@@ -10,19 +10,19 @@ pub returns-in-Some : goal.returns-in-Some
 returns-in-Some g c = record { value = refused_by_network _ _ c.if-query-gt1000000.false _ c.in-Some.ensures; costs_fit = tt }
 
 pub returns-then-not-ends_fit : goal.returns-then-not-ends_fit
-returns-then-not-ends_fit g c = record { value = refused_by_ends _ _ c.if-query-gt1000000.false c.in-default.ensures c.if-not-ends_fit.ensures; costs_fit = tt }
+returns-then-not-ends_fit g c = record { value = refused_by_ends _ _ c.if-query-gt1000000.false c.in_default.ensures c.if-not-ends_fit.ensures; costs_fit = tt }
 
 pub returns-then-not-tables_fit : goal.returns-then-not-tables_fit
-returns-then-not-tables_fit g c = record { value = refused_by_tables _ _ c.if-query-gt1000000.false c.in-default.ensures c.if-not-ends_fit.ensures _ c.capacity.ensures c.if-not-tables_fit.ensures; costs_fit = tt }
+returns-then-not-tables_fit g c = record { value = refused_by_tables _ _ c.if-query-gt1000000.false c.in_default.ensures c.if-not-ends_fit.ensures _ c.capacity.ensures c.if-not-tables_fit.ensures; costs_fit = tt }
 
 pub returns-then-not-is_reached : goal.returns-then-not-is_reached
-returns-then-not-is_reached g c = record { value = refused_by_goal _ _ c.if-query-gt1000000.false c.in-default.ensures c.if-not-ends_fit.ensures _ c.capacity.ensures c.if-not-tables_fit.ensures c.if-not-is_reached.ensures; costs_fit = tt }
+returns-then-not-is_reached g c = record { value = refused_by_goal _ _ c.if-query-gt1000000.false c.in_default.ensures c.if-not-ends_fit.ensures _ c.capacity.ensures c.if-not-tables_fit.ensures c.if-not-is_reached.ensures; costs_fit = tt }
 
-pub slice-bounds-first_unlawful-end : goal.slice-bounds-first_unlawful-end
-slice-bounds-first_unlawful-end g c = let sound = (accepted c.args.network.now c.args.table.now None c.in-default.ensures).0 in search rules
+pub slice_bounds-first_unlawful-end : goal.slice_bounds-first_unlawful-end
+slice_bounds-first_unlawful-end g c = let sound = (accepted c.args.network.now c.args.table.now None c.in_default.ensures).0 in search rules
 
 pub returns-in-Some-first_unlawful : goal.returns-in-Some-first_unlawful
-returns-in-Some-first_unlawful g c = record { value = refused_by_leg _ _ c.if-query-gt1000000.false c.in-default.ensures c.if-not-ends_fit.ensures _ c.capacity.ensures c.if-not-tables_fit.ensures c.if-not-is_reached.ensures _ c.in-Some-first_unlawful.ensures.value; costs_fit = tt }
+returns-in-Some-first_unlawful g c = record { value = refused_by_leg _ _ c.if-query-gt1000000.false c.in_default.ensures c.if-not-ends_fit.ensures _ c.capacity.ensures c.if-not-tables_fit.ensures c.if-not-is_reached.ensures _ c.in-Some-first_unlawful.ensures.value; costs_fit = tt }
 
 pub returns-in-None : goal.returns-in-None
-returns-in-None g c = record { value = refused_by_leg _ _ c.if-query-gt1000000.false c.in-default.ensures c.if-not-ends_fit.ensures _ c.capacity.ensures c.if-not-tables_fit.ensures c.if-not-is_reached.ensures _ c.in-None.ensures.value; costs_fit = all_heads_fit (g.E.Estimate.at c.args.estimate.now) c.args.network.now.legs c.args.table.now c.in-None.ensures.costs_fit }
+returns-in-None g c = record { value = refused_by_leg _ _ c.if-query-gt1000000.false c.in_default.ensures c.if-not-ends_fit.ensures _ c.capacity.ensures c.if-not-tables_fit.ensures c.if-not-is_reached.ensures _ c.in-None.ensures.value; costs_fit = all_heads_fit (g.E.Estimate.at c.args.estimate.now) c.args.network.now.legs c.args.table.now c.in-None.ensures.costs_fit }

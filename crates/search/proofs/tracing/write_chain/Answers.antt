@@ -2,8 +2,8 @@ use Rattle.std.proofs.Common.{◌≤◌, length, arith}
 use Rattle.search.proofs.Traces.{lay_on, lay_never, lay_ends}
 use Rattle.search.proofs.tracing.write_chain.Goals as goal
 
-pub returns-in-default : goal.returns-in-default
-returns-in-default c = absurd (lay_never _ _ _ _ _ _ _ _ _ c.loop-place.invariant c.requires.long c.loop-place-test.true c.in-default.ensures)
+pub returns-in_default : goal.returns-in_default
+returns-in_default c = absurd (lay_never _ _ _ _ _ _ _ _ _ c.loop-place.invariant c.requires.long c.loop-place-test.true c.in_default.ensures)
 
 pub loop-place-preserved : goal.loop-place-preserved
 loop-place-preserved c =

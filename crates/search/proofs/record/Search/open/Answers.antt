@@ -5,7 +5,7 @@ use Rattle.search.proofs.record.Search.open.Goals as goal
 
 pub start-requires : goal.start-requires
 start-requires g c =
-    let fit = accepted_fits _ _ c.in-default.ensures.value in
+    let fit = accepted_fits _ _ c.in_default.ensures.value in
     record { limit_fits = fit.limit_fits; tables_fit = fit.tables_fit }
 
 pub returns-in-Some : goal.returns-in-Some
@@ -18,8 +18,8 @@ returns-in-Some g c = record {
 
 pub returns : goal.returns
 returns g c = record {
-  answered = opens _ _ _ _ c.in-default.ensures.value c.start.ensures.after;
+  answered = opens _ _ _ _ c.in_default.ensures.value c.start.ensures.after;
   same_room = c.start.ensures.same_room;
-  refused_by_number = accepted_by_number _ _ (sym c.in-default.ensures.value);
-  estimates_fit = record { at_start = c.start.ensures.cost_fits; at_heads = c.in-default.ensures.costs_fit };
+  refused_by_number = accepted_by_number _ _ (sym c.in_default.ensures.value);
+  estimates_fit = record { at_start = c.start.ensures.cost_fits; at_heads = c.in_default.ensures.costs_fit };
 }

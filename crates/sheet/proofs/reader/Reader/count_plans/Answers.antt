@@ -9,12 +9,12 @@ use Rattle.sheet.proofs.reader.Reader.count_plans.Goals as goal
 turn : (c : goal.After-saturating_add-plans) → More c.args.network.now.sites c.loop-plans.plans c.loop-plans.self c.next.new.self
 turn c =
     count_more _ _ c.loop-plans.self _ c.in-Some.field-0
-    (ap Ok (sym c.in-Some.is) ∙ c.in-ok-next.ensures.answer) c.in-ok-next.ensures.reader
+    (ap Ok (sym c.in-Some.is) ∙ c.in_ok-next.ensures.answer) c.in_ok-next.ensures.reader
 
-pub returns-in-err-next : goal.returns-in-err-next
-returns-in-err-next c =
-    let p = err_from_is_err_and c.from-residual.result c.from-residual.ensures.1 in
-    p.1 ∙ ap Err p.2 ∙ count_refused _ _ c.loop-plans.self.place _ _ _ _ c.in-err-next.ensures.answer ∙ c.loop-plans.invariant
+pub returns-in_err-next : goal.returns-in_err-next
+returns-in_err-next c =
+    let p = err_from_is_err_and c.from_residual.result c.from_residual.ensures.1 in
+    p.1 ∙ ap Err p.2 ∙ count_refused _ _ c.loop-plans.self.place _ _ _ _ c.in_err-next.ensures.answer ∙ c.loop-plans.invariant
 
 pub loop-plans-smaller : goal.loop-plans-smaller
 loop-plans-smaller c = (turn c).fewer
@@ -25,4 +25,4 @@ loop-plans-preserved c =
     ∙ (turn c).same ∙ c.loop-plans.invariant
 
 pub returns : goal.returns
-returns c = count_end _ _ c.loop-plans.self.place _ _ _ (ap Ok (sym c.in-default.is) ∙ c.in-ok-next.ensures.answer) ∙ c.loop-plans.invariant
+returns c = count_end _ _ c.loop-plans.self.place _ _ _ (ap Ok (sym c.in_default.is) ∙ c.in_ok-next.ensures.answer) ∙ c.loop-plans.invariant
