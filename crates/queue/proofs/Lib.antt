@@ -1,3 +1,4 @@
 pub mod Orders
 pub mod Bags
 mod Fillings
+mod Derived

@@ -1,11 +1,9 @@
--- The order of entries is a strict total order, and both the derived `cmp` and `precedes` answer by it.
+-- The order of entries is a strict total order.
 -- Assumes nothing.
 use Rattle.std.proofs.Common.{◌≡◌, ℕ, ◌<◌, ◌≤◌, Bool, true, false, ◌⊎◌, Ordering, Less, Equal, Greater, sym, refl, ap, ◌∙◌, subst, inl, inr, true≢false, arith}
-use Rattle.std.specs.Cmp.{IsTotalOrder, nat_cmp_total, nat_cmp_is, ranks, then_total, on_total, IsStrictWeakOrder}
+use Rattle.std.specs.Cmp.{IsTotalOrder, nat_cmp_total, nat_cmp_is, ranks, then_total, on_total, IsStrictWeakOrder, upto}
 use Rattle.std.specs.Ordering.{is_lt, is_gt, ordering_reverse, ordering_then, MatchOrdering, nat_cmp}
-use Rattle.std.proofs.HeapSift as Sifts
 use Rattle.queue.specs.declared.entry.Entry.{Entry}
-use Rattle.queue.specs.contracts.entry.EntryOrd.TheImpl.{ghosts}
 use Rattle.queue.specs.Order.{compared, before}
 
 -- The order of entries is lawful since that of numbers is: one field, and then the next.
@@ -21,12 +19,25 @@ compared_flip = total.antisymm
 pub compared_trans : (x y z : Entry) → compared x y ≡ Less → compared y z ≡ Less → compared x z ≡ Less
 compared_trans = total.trans
 
--- What the derived `cmp` answers is `compared`.
-pub cmp_is_compared : (x y : Entry) (r : Ordering) → (r ≡ ghosts.cmp x y) → r ≡ compared x y
-cmp_is_compared x y r h = h
+-- Not less one way round is not greater the other.
+turned : (o : Ordering) → is_lt o ≡ is_gt (ordering_reverse o)
+turned Less = refl
+turned Equal = refl
+turned Greater = refl
+
+not_after : (x y : Entry) → before x y ≡ false → is_gt (compared y x) ≡ false
+not_after x y h = ap is_gt (total.antisymm y x) ∙ sym (turned (compared x y)) ∙ h
+
+one_way_by : (o : Ordering) → is_lt o ≡ true → is_lt (ordering_reverse o) ≡ false
+one_way_by Less h = refl
+one_way_by Equal h = refl
+one_way_by Greater h = absurd (true≢false (sym h))
 
 pub ranked : IsStrictWeakOrder before
-ranked = Sifts.ranks total
+ranked = record {
+  one_way = λ x y h. ap is_lt (total.antisymm y x) ∙ one_way_by (compared x y) h;
+  chain = λ x y z h k. turned (compared x z) ∙ ap is_gt (sym (total.antisymm z x)) ∙ upto total z y x (not_after y z k) (not_after x y h);
+}
 
 -- Asymmetric: of two entries at most one comes before the other.
 pub before_asymmetric : (x y : Entry) → before x y ≡ true → before y x ≡ false

@@ -1,1 +1,2 @@
 mod Sifting
+mod Placing

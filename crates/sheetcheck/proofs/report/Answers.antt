@@ -7,7 +7,7 @@ use Rattle.sheetcheck.proofs.report.Goals as goal
 
 pub returns-then-is_err : goal.returns-then-is_err
 returns-then-is_err c =
-    let room : length c.deref_mut.result.now ≡ 4096 = omega (arith, c.deref_mut.ensures.len, c.in_ok-table.ensures.made) in
+    let room : length c.deref_mut.result.now ≡ 4096 = omega (arith, c.deref_mut.ensures.len, c.in_ok-table.ensures.len) in
     record {
       answer = c.check_sheet-answer.ensures.answer ∙ ap (λ n. checked n c.args.sheet.now) room;
       text = record { plans = []; lines = c.in_ok-text.ensures ∙ sym (append-nil _); no_more = λ _. refl };
@@ -15,7 +15,7 @@ returns-then-is_err c =
 
 pub returns : goal.returns
 returns c =
-    let room : length c.deref_mut.result.now ≡ 4096 = omega (arith, c.deref_mut.ensures.len, c.in_ok-table.ensures.made) in
+    let room : length c.deref_mut.result.now ≡ 4096 = omega (arith, c.deref_mut.ensures.len, c.in_ok-table.ensures.len) in
     let pushed : is_ok c.push_str.result ≡ true = ap is_ok c.in_ok-push_str.was in
     record {
       answer = c.check_sheet-answer.ensures.answer ∙ ap (λ n. checked n c.args.sheet.now) room;

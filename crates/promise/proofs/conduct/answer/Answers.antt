@@ -12,5 +12,5 @@ returns-in-Advance g c = record { does = of_call c.in-Advance.is (advances _ _ _
 pub returns-in-Verdict : goal.returns-in-Verdict
 returns-in-Verdict g c = record { does = of_call c.in-Verdict.is (tells_verdict _ c.verdict.ensures); same_room = refl }
 
-pub returns-in_ok-trace_into : goal.returns-in_ok-trace_into
-returns-in_ok-trace_into g c = record { does = of_call c.in-Trace.is (traces _ _ c.in_ok-trace_into.ensures); same_room = refl }
+pub returns-in_ok-trace_into-in-Trace : goal.returns-in_ok-trace_into-in-Trace
+returns-in_ok-trace_into-in-Trace g c = record { does = of_call c.in-Trace.is (traces _ _ c.in_ok-trace_into-in-Trace.ensures); same_room = refl }

@@ -1,6 +1,6 @@
 use Rattle.std.proofs.Common.{◌+◌, ◌-◌, ◌/◌, sym, arith}
 use Rattle.queue.specs.declared.entry.Entry.{Entry}
-use Rattle.queues.specs.Placing.{all_up_to, all_from, placed}
+use Rattle.queues.proofs.Placing.{all_up_to, all_from, placed}
 use Rattle.queues.proofs.place.place.Goals as goal
 
 -- what a read past the end of the slice gives
