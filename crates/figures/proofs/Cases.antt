@@ -1,6 +1,6 @@
 -- Every case of the table comes out: the searches by computation, on records that may hold anything. Assumes nothing.
 use Rattle.std.proofs.Common.{List, [], ◌∷◌, refl}
-use Rattle.std.specs.List.{AllByRecursion as All}
+use Rattle.std.specs.List.{AllByRecursion}
 use Rattle.network.specs.declared.refusals.Stop.TheVariants.{LabelsUsed, QueueFull}
 use Rattle.network.specs.Checks.{first_failing, network_refusal}
 use Rattle.network.specs.Legs.{leg_delay}
@@ -27,7 +27,7 @@ data Each : List Case → Type 0 where
   done : Each []
   ◌then◌ : {c : Case} {cs : List Case} → ToShow c → Each cs → Each (c ∷ cs)
 
-each_shown : (cs : List Case) → Each cs → All ComesOut cs
+each_shown : (cs : List Case) → Each cs → AllByRecursion ComesOut cs
 each_shown [] done = tt
 each_shown (c ∷ cs) (h then more) = (shown c h, each_shown cs more)
 

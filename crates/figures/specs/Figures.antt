@@ -1,7 +1,7 @@
 -- The reference figures: one small network, and what searches on it, reaches over it and a leg's delay come to, case by case.
 -- Assumes nothing.
 use Rattle.std.specs.Prelude.{◌≡◌, ℕ, ◌≤◌, ◌↔◌, List, [], ◌∷◌, ◌++◌, length, drop, Some, None, Ok, Err, Option, Result}
-use Rattle.std.specs.List.{AllByRecursion as All}
+use Rattle.std.specs.List.{AllByRecursion}
 use Rattle.network.specs.declared.estimates.Bound.{Bound}
 use Rattle.network.specs.declared.legs.Leg.{Leg}
 use Rattle.network.specs.declared.legs.Network.{Network}
@@ -172,4 +172,4 @@ ComesOut (takes stated medium delay) = (tail head fee grade : ℕ) → leg_delay
 
 -- Every case comes out.
 abbrev pub EveryCaseComesOut : Type 0
-EveryCaseComesOut = All ComesOut cases
+EveryCaseComesOut = AllByRecursion ComesOut cases

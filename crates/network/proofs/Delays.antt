@@ -1,13 +1,13 @@
 -- The laws of a leg's delay. Assumes nothing.
 use Rattle.std.proofs.Common.{◌≡◌, ℕ, ◌≤◌, true, arith, lit≤}
-use Rattle.std.specs.List.{AllByRecursion as All}
+use Rattle.std.specs.List.{AllByRecursion}
 use Rattle.std.proofs.ByRecursion.{All-get_or}
 use Rattle.network.specs.declared.legs.Leg.{Leg}
 use Rattle.network.specs.Legs.{handovers, leg_delay, leg_in_range}
 use Rattle.network.proofs.Ranges.{ranges}
 
 -- every handover delay is small
-handovers_small : All (λ h. h ≤ 150) handovers
+handovers_small : AllByRecursion (λ h. h ≤ 150) handovers
 handovers_small = (lit≤ tt, (lit≤ tt, (lit≤ tt, (lit≤ tt, (lit≤ tt, (lit≤ tt, (lit≤ tt, (lit≤ tt, tt))))))))
 
 -- a leg in range takes at most 4,000,000 microseconds: so loose a bound that it outlasts other rules for a leg's delay

@@ -24,7 +24,7 @@ fn put_sorted(list: &mut Vec<Entry>, e: Entry) -> Result<Result<(), Full>, Fail>
         return Ok(Err(Full));
     }
     list.push(e)?;
-    list.sort();
+    list.sort()?;
     Ok(Ok(()))
 }
 

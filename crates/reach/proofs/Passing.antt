@@ -1,6 +1,6 @@
 -- One pass over the legs: it keeps the records witnessed, and lowers the height or settles every leg. Assumes nothing.
 use Rattle.std.proofs.Common.{◌≡◌, ℕ, ◌+◌, ◌<◌, ◌≤◌, Bool, true, false, ◌||◌, List, [], ◌∷◌, length, get_or, drop, sym, refl, ap, ◌∙◌, subst, ⊎_elim, arith}
-use Rattle.std.specs.List.{AllByRecursion as All}
+use Rattle.std.specs.List.{AllByRecursion}
 use Rattle.std.proofs.ByRecursion.{All-get_or, All-from_get_or}
 use Rattle.std.proofs.lemmas.List.{at_drop_more, at_drop_all}
 use Rattle.std.proofs.lemmas.Bool.{or_cases, or_parts}
@@ -56,7 +56,7 @@ module _ (g : Graph) (legs : List Leg) (i : ℕ) (t : Tables) where
 abbrev LegOf : Graph → Leg → Type 0
 LegOf g leg = (j : ℕ) × (j < length g.legs) × (leg_at g j ≡ leg)
 
-legs_of_graph : (g : Graph) → All (LegOf g) g.legs
+legs_of_graph : (g : Graph) → AllByRecursion (LegOf g) g.legs
 legs_of_graph g = All-from_get_or (LegOf g) g.legs no_leg (λ j h. (j, h, refl))
 
 module _ (g : Graph) (n goal : ℕ) (reg : Regular g n) (few : n ≤ 1024) where
@@ -76,17 +76,17 @@ module _ (g : Graph) (n goal : ℕ) (reg : Regular g n) (few : n ≤ 1024) where
     stays : relaxes g leg t ≡ false → relaxed g leg t ≡ t
     stays = let P : Leg → Type 0 = λ a. relaxes g a t ≡ false → relaxed g a t ≡ t in subst P of.2 (relaxed_stays g n goal reg few of.0 of.1 t holds)
 
-  keeps_all : (legs : List Leg) → All (LegOf g) legs → (t : Tables) → Witnesses g n goal t → Witnesses g n goal (passed g legs t)
+  keeps_all : (legs : List Leg) → AllByRecursion (LegOf g) legs → (t : Tables) → Witnesses g n goal t → Witnesses g n goal (passed g legs t)
   unfolding passed
   keeps_all [] of t holds = holds
   keeps_all (leg ∷ legs) of t holds = keeps_all legs of.1 (relaxed g leg t) (keeps leg of.0 t holds)
 
-  not_higher_all : (legs : List Leg) → All (LegOf g) legs → (t : Tables) → Witnesses g n goal t → height (passed g legs t) ≤ height t
+  not_higher_all : (legs : List Leg) → AllByRecursion (LegOf g) legs → (t : Tables) → Witnesses g n goal t → height (passed g legs t) ≤ height t
   unfolding passed
   not_higher_all [] of t holds = omega arith
   not_higher_all (leg ∷ legs) of t holds = omega (arith, not_higher_all legs of.1 (relaxed g leg t) (keeps leg of.0 t holds), not_higher leg of.0 t holds)
 
-  falls_all : (legs : List Leg) → All (LegOf g) legs → (t : Tables) → Witnesses g n goal t → changes g legs t ≡ true → height (passed g legs t) < height t
+  falls_all : (legs : List Leg) → AllByRecursion (LegOf g) legs → (t : Tables) → Witnesses g n goal t → changes g legs t ≡ true → height (passed g legs t) < height t
   unfolding passed changes
   falls_all [] of t holds e = let z : ◌≡◌ {A = ℕ} 0 1 = cc in absurd (omega arith)
   falls_all (leg ∷ legs) of t holds e =
@@ -96,7 +96,7 @@ module _ (g : Graph) (n goal : ℕ) (reg : Regular g n) (few : n ≤ 1024) where
       (λ (b : changes g legs (relaxed g leg t) ≡ true). omega (arith, falls_all legs of.1 (relaxed g leg t) after b, not_higher leg of.0 t holds))
       (or_cases (relaxes g leg t) (changes g legs (relaxed g leg t)) e)
 
-  rests_all : (legs : List Leg) → All (LegOf g) legs → (t : Tables) → Witnesses g n goal t → changes g legs t ≡ false → (passed g legs t ≡ t) × All (λ leg. Settled g leg t) legs
+  rests_all : (legs : List Leg) → AllByRecursion (LegOf g) legs → (t : Tables) → Witnesses g n goal t → changes g legs t ≡ false → (passed g legs t ≡ t) × AllByRecursion (λ leg. Settled g leg t) legs
   unfolding passed changes
   rests_all [] of t holds e = (refl, tt)
   rests_all (leg ∷ legs) of t holds e =
