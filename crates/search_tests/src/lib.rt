@@ -7,6 +7,8 @@ mod tests {
     use network::legs::*;
     use network::refusals::*;
     use network::tariffs::*;
+    use promise::calls::*;
+    use promise::conduct::conduct;
     use queue::interface::Queue;
     use queues::heap::Heap;
     use queues::row::Row;
@@ -54,6 +56,56 @@ mod tests {
         legs: [u16; 3],
     }
 
+    // A label as it may lie in a record that was used before.
+    fn stale() -> Label {
+        Label {
+            mark: Mark { cost: 7, delay: 7 },
+            site: 7,
+            from: None,
+        }
+    }
+
+    fn query(goal: u16, limit: u32) -> Query {
+        Query {
+            start: 0,
+            goal,
+            limit,
+        }
+    }
+
+    // Opens a search on tables that were used before, advances it by 50 steps, and traces it.
+    fn search_in<Q: Queue, T: Tariff, E: Estimate>(
+        rt: &impl Abort,
+        network: Network,
+        table: &[Leg],
+        query: Query,
+        queue: &mut Q,
+        tariff: &T,
+        estimate: &E,
+        records: usize,
+    ) -> Result<Found, Fail> {
+        let mut labels = [stale(); 8];
+        assert!(rt; records <= 8);
+        let labels = &mut labels[0..records];
+        let mut least = [7; 5];
+        let mut search = Search::new();
+        search.open(
+            query, &network, table, labels, &mut least, queue, tariff, estimate,
+        )?;
+        search.advance(
+            50, &network, table, labels, &mut least, queue, tariff, estimate,
+        )?;
+        let mut legs = [9; 3];
+        let traced = search.trace(&network, table, labels, &mut legs);
+        Ok(Found {
+            verdict: search.verdict(),
+            labels: search.count,
+            traced,
+            legs,
+        })
+    }
+
+    // The search from 0 to 3 in the network of four sites.
     fn search<Q: Queue, T: Tariff, E: Estimate>(
         rt: &impl Abort,
         queue: &mut Q,
@@ -64,35 +116,16 @@ mod tests {
     ) -> Result<Found, Fail> {
         let network = Network { sites: 4, legs: 5 };
         let table = four_sites();
-        let blank = Label {
-            mark: Mark { cost: 7, delay: 7 },
-            site: 7,
-            from: None,
-        };
-        let mut labels = [blank; 8];
-        assert!(rt; records <= 8);
-        let labels = &mut labels[0..records];
-        let mut least = [7; 5];
-        let mut search = Search::new();
-        let query = Query {
-            start: 0,
-            goal: 3,
-            limit,
-        };
-        search.open(
-            query, &network, &table, labels, &mut least, queue, tariff, estimate,
-        )?;
-        search.advance(
-            50, &network, &table, labels, &mut least, queue, tariff, estimate,
-        )?;
-        let mut legs = [9; 3];
-        let traced = search.trace(&network, &table, labels, &mut legs);
-        Ok(Found {
-            verdict: search.verdict(),
-            labels: search.count,
-            traced,
-            legs,
-        })
+        search_in(
+            rt,
+            network,
+            &table,
+            query(3, limit),
+            queue,
+            tariff,
+            estimate,
+            records,
+        )
     }
 
     fn route(
@@ -185,6 +218,213 @@ mod tests {
             search(&rt, &mut three, &TotalFee, &nearest(), 9, 5)?,
             route(4, 9, 3, 5, 2, [0, 1, 9])
         );
+        Ok(())
+    }
+
+    // The answer to an open from 0 to 3 with these tables as the estimate.
+    fn opened<'a, Q: Queue>(
+        queue: &mut Q,
+        costs: &'a [u64],
+        delays: &'a [u32],
+    ) -> Result<(), Refusal> {
+        let mut labels = [stale(); 8];
+        let mut least = [7; 5];
+        let mut search = Search::new();
+        search.open(
+            query(3, 9),
+            &Network { sites: 4, legs: 5 },
+            &four_sites(),
+            &mut labels,
+            &mut least,
+            queue,
+            &TotalFee,
+            &Reached { costs, delays },
+        )
+    }
+
+    // The goal must have 0 and 0. Site 1 may not cost 3, as leg 1 (fee 2) ends at the goal; nor 0, as site 0, at 4, has leg 0
+    // (fee 2) to it. Site 0 may not be 2 away, as leg 4 (delay 1) ends at the goal; nor may site 1 be cut off.
+    #[test]
+    fn unlawful_estimates(rt: HostRuntime) -> Result<(), Fail> {
+        let mut heap = Heap::new(rt.alloc(), 8)?;
+        let away = &[1, 5, 2, 0];
+        assert_eq!(rt; opened(&mut heap, &[4, 2, 1, 0], away), Ok(()));
+        assert_eq!(rt;
+            opened(&mut heap, &[4, 2, 1, 1], away),
+            Err(Refusal::GoalEstimate)
+        );
+        assert_eq!(rt;
+            opened(&mut heap, &[4, 3, 1, 0], away),
+            Err(Refusal::LegEstimate(1))
+        );
+        assert_eq!(rt;
+            opened(&mut heap, &[4, 0, 1, 0], away),
+            Err(Refusal::LegEstimate(0))
+        );
+        assert_eq!(rt;
+            opened(&mut heap, &[4, 2, 1, 0], &[2, 5, 2, 0]),
+            Err(Refusal::LegEstimate(4))
+        );
+        assert_eq!(rt;
+            opened(&mut heap, &[4, 2, 1, 0], &[1, u32::MAX, 2, 0]),
+            Err(Refusal::LegEstimate(1))
+        );
+        Ok(())
+    }
+
+    // Small networks that tell readings apart, with the blank estimate.
+    // - A leg from a site to itself that is free and takes no time: its label is never below the record of its site.
+    // - Parallel legs of one fee: the soonest comes first.
+    // - Parallel legs, one cheaper and one sooner: both labels at site 1 count, as only the dearer one keeps the limit.
+    // - Parallel legs of one delay: the dearer label is taken up third, and dropped.
+    #[test]
+    fn telling_networks(rt: HostRuntime) -> Result<(), Fail> {
+        let mut row = Row::new(rt.alloc(), 8)?;
+        let loops = [leg(0, 0, 0, 0, 0), leg(0, 1, 1, 0, 1)];
+        let two = Network { sites: 2, legs: 2 };
+        assert_eq!(rt;
+            search_in(
+                &rt,
+                two,
+                &loops,
+                query(1, 1),
+                &mut row,
+                &TotalFee,
+                &Blank,
+                8
+            )?,
+            route(1, 1, 2, 2, 1, [1, 9, 9])
+        );
+        let equal_fees = [leg(0, 1, 1, 0, 3), leg(0, 1, 1, 0, 2)];
+        assert_eq!(rt;
+            search_in(
+                &rt,
+                two,
+                &equal_fees,
+                query(1, 5),
+                &mut row,
+                &TotalFee,
+                &Blank,
+                8,
+            )?,
+            route(1, 2, 2, 3, 1, [1, 9, 9])
+        );
+        let three = Network { sites: 3, legs: 3 };
+        let parallel = [leg(0, 1, 1, 0, 3), leg(0, 1, 3, 0, 1), leg(1, 2, 1, 0, 2)];
+        assert_eq!(rt;
+            search_in(
+                &rt,
+                three,
+                &parallel,
+                query(2, 4),
+                &mut row,
+                &TotalFee,
+                &Blank,
+                8,
+            )?,
+            route(4, 3, 4, 4, 2, [1, 2, 9])
+        );
+        let equal_delays = [leg(0, 1, 1, 0, 2), leg(0, 1, 2, 0, 2), leg(1, 2, 9, 0, 1)];
+        assert_eq!(rt;
+            search_in(
+                &rt,
+                three,
+                &equal_delays,
+                query(2, 9),
+                &mut row,
+                &TotalFee,
+                &Blank,
+                8,
+            )?,
+            route(10, 3, 4, 4, 2, [0, 2, 9])
+        );
+        Ok(())
+    }
+
+    // What an event tells: the number by which its call was refused, or 0; the steps made or the legs traced; and the verdict
+    // after it.
+    fn told(event: &Event) -> (u8, u64, Verdict) {
+        let after = event.after;
+        match &event.answer {
+            Answer::Opened(Ok(())) => (0, 0, after),
+            Answer::Opened(Err(why)) => (why.number(), 0, after),
+            Answer::Advanced(Ok(steps)) => (0, *steps as u64, after),
+            Answer::Advanced(Err(why)) => (why.number(), 0, after),
+            Answer::Told(_) => (0, 0, after),
+            Answer::Traced(Ok(legs)) => (0, legs.len() as u64, after),
+            Answer::Traced(Err(why)) => (why.number(), 0, after),
+        }
+    }
+
+    // A list of calls on one worksheet, refused ones among them.
+    #[test]
+    fn a_list_of_calls(rt: HostRuntime) -> Result<(), Fail> {
+        let heap = rt.alloc();
+        let mut queue = Heap::new(heap, 3)?;
+        let mut labels = [stale(); 5];
+        let mut least = [7; 4];
+        let mut events = Vec::new(heap);
+        let calls = [
+            Call::Advance(1),
+            Call::Trace(5),
+            Call::Open(query(3, 9)),
+            Call::Advance(2),
+            Call::Advance(9),
+            Call::Trace(1),
+            Call::Trace(5),
+            Call::Open(query(4, 9)),
+            Call::Verdict,
+        ];
+        conduct(
+            heap,
+            &calls,
+            &Network { sites: 4, legs: 5 },
+            &four_sites(),
+            &mut labels,
+            &mut least,
+            &mut queue,
+            &TotalFee,
+            &nearest(),
+            &mut events,
+        )?;
+        let fresh = Verdict {
+            standing: Standing::Fresh,
+            steps: 0,
+        };
+        let open = Standing::Open;
+        let found = Verdict {
+            standing: Standing::Found(Mark { cost: 4, delay: 9 }),
+            steps: 3,
+        };
+        let due = [
+            (13, 0, fresh),
+            (14, 0, fresh),
+            (
+                0,
+                0,
+                Verdict {
+                    standing: open,
+                    steps: 0,
+                },
+            ),
+            (
+                0,
+                2,
+                Verdict {
+                    standing: open,
+                    steps: 2,
+                },
+            ),
+            (0, 1, found),
+            (18, 0, found),
+            (0, 2, found),
+            (10, 0, found),
+            (0, 0, found),
+        ];
+        assert!(rt; events.len() == due.len());
+        for (event, expected) in events.iter().zip(due.iter()) {
+            assert_eq!(rt; told(event), *expected);
+        }
         Ok(())
     }
 }
