@@ -20,7 +20,7 @@ use Rattle.worksheet.specs.Problem.{Setting}
 use Rattle.search.specs.declared.record.Standing.{Standing}
 use Rattle.search.specs.declared.record.Standing.TheVariants as standing
 use Rattle.search.specs.Calls.{Worksheet, Outcome, setting, opening, advancing, tracing, traced, Traced}
-use Rattle.search.specs.Record.{search_of, verdict_on}
+use Rattle.promise.specs.Conduct.{search_of, verdict_on}
 use Rattle.reach.specs.Reaches.{reach_refusal, answer_by, Written}
 
 -- A leg, by its tail, head, fee, grade, stated delay and medium.

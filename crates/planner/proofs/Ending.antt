@@ -12,7 +12,7 @@ use Rattle.worksheet.specs.declared.records.Query.{Query}
 use Rattle.worksheet.specs.Problem.{Setting, problem}
 use Rattle.search.specs.declared.record.Verdict.{Verdict}
 use Rattle.search.specs.Calls.{Worksheet, setting, Outcome, outcome, CostsFit, open_refusal, open_decided, opening, run, advancing}
-use Rattle.search.specs.Record.{verdict_on}
+use Rattle.promise.specs.Conduct.{verdict_on}
 use Rattle.planner.specs.declared.tally.Tally.{Tally}
 use Rattle.planner.specs.Tallies.{left_for, reduced}
 use Rattle.planner.specs.Serves.{asked, Ground, Desk, desk, searched, Reached, Serves, reach_refused, open_refused, served}

@@ -18,7 +18,7 @@ use Rattle.search.specs.declared.record.Standing.TheVariants.{Open, Found, Exhau
 use Rattle.search.specs.Record.{standing_of}
 use Rattle.search.specs.Calls.{Worksheet, Outcome, outcome, CostsFit, open_refusal, open_decided, opening, Run, run, run_outcome, advancing, chain_laid, traced_in, tracing}
 use Rattle.promise.specs.Promise.{Tells}
-use Rattle.search.specs.Record.{search_of, verdict_on}
+use Rattle.promise.specs.Conduct.{search_of, verdict_on}
 use Rattle.promise.proofs.Telling.{phase_told, not_open_told}
 use Rattle.promise.proofs.Running.{opened_begun, Ran, run_is_series}
 use Rattle.promise.proofs.Underway.{Underway, RouteIs, known, tells_verdict, chain_found}
@@ -92,8 +92,8 @@ module _ (g : Ground) (p : Plan) (d : Desk) (costs delays : List ℕ) (lawful : 
     legs_are : RouteIs end legs
     legs_are i m e = ap (λ (x : Phase). found_legs end.state x) e
 
-    tells : Tells place (asked p) left legs (verdict_on end)
-    tells = tells_verdict place lawful end (Some (asked p)) left (refl, underway) legs legs_are
+    tells : Tells place (asked p) [] left legs (verdict_on end)
+    tells = tells_verdict place lawful end (Some (asked p)) [] left (refl, underway) legs legs_are
 
     knows : Known (problem place (asked p)) d.sheet.state [] (0 + ran.more) end.state
     knows = known place lawful end [] left underway
@@ -135,16 +135,16 @@ module _ (g : Ground) (p : Plan) (d : Desk) (costs delays : List ℕ) (lawful : 
     pub fulfilled : Fulfils g p d (verdict_on end) (desk costs delays end (reduced d.tally p.broker (run_on place (asked p) d.sheet left).made))
     fulfilled = record {
       legs = legs;
-      found_is_cheapest = tells.found_is_cheapest;
+      found_is_cheapest = tells.found_is_cheapest refl;
       found_has_cost = tells.found_has_cost;
       found_has_delay = tells.found_has_delay;
       found_is_traced = traces;
       found_is_short = short;
-      exhausted_means_no_route = λ e. (tells.exhausted_means_no_route (inr e)).0 e;
+      exhausted_means_no_route = λ e. (tells.exhausted_means_no_route refl (inr e)).0 e;
       open_means_all_spent = spent;
       stopped_means_full = full;
       enough_room_never_stops = λ room. tells.enough_room_never_stops (room.labels, room.entries);
-      enough_of_both_ends = λ room steps. tells.enough_of_both_ends (room.labels, room.entries) (omega (arith, steps));
+      enough_of_both_ends = λ room steps. tells.enough_steps_end (room.labels, room.entries) (omega (arith, steps));
       never_fresh = tells.never_fresh;
       steps_come_off = come_off;
     }

@@ -10,8 +10,8 @@ use Rattle.worksheet.specs.Steps.{State}
 use Rattle.search.specs.declared.record.Standing.TheVariants.{Fresh, Open, Found, Exhausted, Stopped}
 use Rattle.search.specs.declared.record.Verdict.{Verdict}
 use Rattle.search.specs.Calls.{Worksheet, tracing, chain_laid}
-use Rattle.promise.specs.Promise.{EndedUnstopped}
-use Rattle.search.specs.Record.{search_of}
+use Rattle.promise.specs.Promise.{HasEnded}
+use Rattle.promise.specs.Conduct.{search_of}
 use Rattle.planner.specs.Tallies.{left_for}
 use Rattle.planner.specs.Serves.{Ground, Desk}
 
@@ -53,7 +53,7 @@ pub record Fulfils (g : Ground) (p : Plan) (d : Desk) (v : Verdict) (e : Desk) :
   pub stopped_means_full : (why : Stop) → v.standing ≡ Stopped why → Full g.capacity e.sheet.state why
   -- With enough room the search is never stopped, and with 2 + m × (L + 1) steps left it ends.
   pub enough_room_never_stops : HasRoom g p d → (why : Stop) → v.standing ≢ Stopped why
-  pub enough_of_both_ends : HasRoom g p d → 2 + g.net.legs * (p.limit + 1) ≤ left_for d.tally p.broker → EndedUnstopped v
+  pub enough_of_both_ends : HasRoom g p d → 2 + g.net.legs * (p.limit + 1) ≤ left_for d.tally p.broker → HasEnded v
   -- A plan that was served has been searched for, and the steps of the search, no more than were left, are what the tally lost.
   pub never_fresh : v.standing ≡ Fresh → ⊥
   pub steps_come_off : left_for e.tally p.broker + v.steps ≡ left_for d.tally p.broker

@@ -13,7 +13,7 @@ use Rattle.worksheet.specs.declared.records.Query.{Query}
 use Rattle.worksheet.specs.Problem.{Setting}
 use Rattle.search.specs.declared.record.Verdict.{Verdict}
 use Rattle.search.specs.Calls.{Worksheet, setting, outcome, opening, advancing}
-use Rattle.search.specs.Record.{verdict_on}
+use Rattle.promise.specs.Conduct.{verdict_on}
 use Rattle.planner.specs.declared.tally.Tally.{Tally}
 use Rattle.planner.specs.Tallies.{left_for, reduced}
 

@@ -16,7 +16,7 @@ use Rattle.search.specs.declared.record.Standing.{Standing}
 use Rattle.search.specs.declared.record.Standing.TheVariants.{Fresh, Open, Found, Exhausted, Stopped}
 use Rattle.search.specs.declared.record.Verdict.{Verdict}
 use Rattle.search.specs.Calls.{Traced, traced, tracing, chain_laid}
-use Rattle.search.specs.Record.{search_of}
+use Rattle.promise.specs.Conduct.{search_of}
 use Rattle.planner.specs.Serves.{Ground, ground, Desk, Serves}
 use Rattle.planner.specs.Fulfils.{Fulfils}
 use Rattle.report.specs.declared.lines.Refused.{Refused}

@@ -6,7 +6,7 @@ use Rattle.network.specs.declared.refusals.Refusal.{Refusal}
 use Rattle.queue.specs.Bag.{bagged}
 use Rattle.search.specs.Record.{fresh}
 use Rattle.search.specs.Calls.{worksheet, Traced, tracing}
-use Rattle.search.specs.Record.{search_of}
+use Rattle.promise.specs.Conduct.{search_of}
 use Rattle.planner.specs.declared.tally.Tally.{Tally}
 use Rattle.planner.specs.Serves.{desk}
 use Rattle.planner.specs.Serves as planner
