@@ -21,7 +21,7 @@ use Rattle.planner.specs.Serves.{Ground, ground, Desk, desk, Serves}
 use Rattle.planner.specs.Fulfils.{Fulfils}
 use Rattle.embed.specs.declared.serving.Answer.{Answer}
 use Rattle.embed.specs.declared.serving.Request.{Request}
-use Rattle.embed.specs.Answers.{or_short, memory_short, refusal_record}
+use Rattle.embed.specs.Answers.{or_short, refusal_record}
 use Rattle.embed.specs.Requests.{Served, PlanAnswered, load_of_sheet, Answers, load_refused, wants_memory}
 use Rattle.embed.specs.Requests as requests
 

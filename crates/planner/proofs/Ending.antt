@@ -7,11 +7,10 @@ use Rattle.network.specs.Estimates.{tables_at}
 use Rattle.network.specs.Tariffs.{Lawful}
 use Rattle.network.specs.Walks.{graph}
 use Rattle.reach.specs.Reaches.{reach_refusal, answer_by, Written}
-use Rattle.worksheet.specs.declared.records.Label.{Label}
 use Rattle.worksheet.specs.declared.records.Query.{Query}
 use Rattle.worksheet.specs.Problem.{Setting, problem}
 use Rattle.search.specs.declared.record.Verdict.{Verdict}
-use Rattle.search.specs.Calls.{Worksheet, setting, Outcome, outcome, CostsFit, open_refusal, open_decided, opening, run, advancing}
+use Rattle.search.specs.Calls.{Worksheet, setting, Outcome, outcome, CostsFit, open_refusal, open_decided, opening, advancing}
 use Rattle.promise.specs.Conduct.{verdict_on}
 use Rattle.planner.specs.declared.tally.Tally.{Tally}
 use Rattle.planner.specs.Tallies.{left_for, reduced}

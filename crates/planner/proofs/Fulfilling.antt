@@ -13,8 +13,8 @@ use Rattle.worksheet.specs.declared.records.Query.{Query}
 use Rattle.worksheet.specs.Problem.{Setting, problem}
 use Rattle.worksheet.specs.Steps.{State, is_open, opened}
 use Rattle.worksheet.specs.Traces.{trace}
-use Rattle.worksheet.specs.Series.{Series, begun, Known}
-use Rattle.search.specs.declared.record.Standing.TheVariants.{Open, Found, Exhausted, Stopped}
+use Rattle.worksheet.specs.Series.{begun, Known}
+use Rattle.search.specs.declared.record.Standing.TheVariants.{Open, Found, Stopped}
 use Rattle.search.specs.Record.{standing_of}
 use Rattle.search.specs.Calls.{Worksheet, Outcome, outcome, CostsFit, open_refusal, open_decided, opening, Run, run, run_outcome, advancing, chain_laid, traced_in, tracing}
 use Rattle.promise.specs.Promise.{Tells}

@@ -9,7 +9,7 @@ use Rattle.worksheet.specs.declared.records.Mark.{Mark}
 use Rattle.worksheet.specs.Steps.{State}
 use Rattle.search.specs.declared.record.Standing.TheVariants.{Fresh, Open, Found, Exhausted, Stopped}
 use Rattle.search.specs.declared.record.Verdict.{Verdict}
-use Rattle.search.specs.Calls.{Worksheet, tracing, chain_laid}
+use Rattle.search.specs.Calls.{tracing, chain_laid}
 use Rattle.promise.specs.Promise.{HasEnded}
 use Rattle.promise.specs.Conduct.{search_of}
 use Rattle.planner.specs.Tallies.{left_for}

@@ -5,7 +5,7 @@ use Rattle.network.specs.declared.legs.Leg.{Leg}
 use Rattle.network.specs.declared.plans.Plan.{Plan}
 use Rattle.network.specs.declared.refusals.Place.TheVariants as place
 use Rattle.network.specs.declared.refusals.Refusal.{Refusal}
-use Rattle.network.specs.declared.refusals.Refusal.TheVariants.{Unended, UnknownWord, TableFull}
+use Rattle.network.specs.declared.refusals.Refusal.TheVariants.{Unended, UnknownWord}
 use Rattle.network.specs.Refusals.{place_of}
 use Rattle.sheet.specs.Entries.{leg_of, plan_of, sites_of, in_range, entry_by, leg_entry}
 use Rattle.sheet.specs.Numbers.{well_formed, numbers_of}

@@ -1,5 +1,5 @@
 -- The plans of a sheet, told one by one. Assumes nothing.
-use Rattle.std.proofs.Common.{◌≡◌, ℕ, ◌+◌, ◌-◌, ◌<◌, ◌≤◌, Bool, true, cond, leb, List, [], ◌∷◌, ◌++◌, length, take, drop, Some, None, Ok, Err, Option, Result, sym, refl, ap, ◌∙◌, subst, ap₂, inl, inr, append_assoc, arith}
+use Rattle.std.proofs.Common.{◌≡◌, ℕ, ◌-◌, ◌<◌, ◌≤◌, Bool, true, leb, List, [], ◌∷◌, ◌++◌, length, drop, Some, None, Ok, Err, Option, Result, sym, refl, ap, ◌∙◌, subst, ap₂, inl, inr, append_assoc, arith}
 use Rattle.std.proofs.lemmas.List.{append-nil, drop_all, take_at}
 use Rattle.std.proofs.lemmas.Bool.{cases_lt, cond-true, le-leb}
 use Rattle.network.specs.declared.legs.Leg.{Leg}
@@ -15,7 +15,7 @@ use Rattle.sheet.specs.Calls.{moved, next_of}
 use Rattle.search.specs.declared.record.Standing.{Standing}
 use Rattle.search.specs.declared.record.Standing.TheVariants.{Fresh, Open, Found, Exhausted, Stopped}
 use Rattle.search.specs.declared.record.Verdict.{Verdict}
-use Rattle.search.specs.Calls.{Traced, traced, tracing, chain_laid}
+use Rattle.search.specs.Calls.{traced, tracing, chain_laid}
 use Rattle.promise.specs.Conduct.{search_of}
 use Rattle.planner.specs.Serves.{Ground, ground, Desk, Serves}
 use Rattle.planner.specs.Fulfils.{Fulfils}
