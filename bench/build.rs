@@ -4,7 +4,7 @@ fn main() {
     let folders = std::env::var("DEQIBUR_ARCHIVES").unwrap_or_default();
     for folder in folders.split(':').filter(|folder| !folder.is_empty()) {
         println!("cargo:rustc-link-search=native={folder}");
-        for archive in ["libembed.a", "librattle_c.a"] {
+        for archive in ["libembed.a", "liblibc_c.a"] {
             println!("cargo:rerun-if-changed={folder}/{archive}");
         }
     }

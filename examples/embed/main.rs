@@ -41,7 +41,7 @@ mod deqibur {
     }
 
     #[link(name = "embed", kind = "static")]
-    #[link(name = "rattle_c", kind = "static")]
+    #[link(name = "libc_c", kind = "static")]
     extern "C" {
         fn deqibur_check_sheet(sheet: *const u8, sheet_len: usize) -> SheetCheck;
         fn deqibur_serve(

@@ -38,7 +38,7 @@ mod library {
     }
 
     #[link(name = "embed", kind = "static")]
-    #[link(name = "rattle_c", kind = "static")]
+    #[link(name = "libc_c", kind = "static")]
     extern "C" {
         fn deqibur_serve(
             sheet: *const u8,

@@ -19,7 +19,7 @@ mod library {
     }
 
     #[link(name = "embed", kind = "static")]
-    #[link(name = "rattle_c", kind = "static")]
+    #[link(name = "libc_c", kind = "static")]
     extern "C" {
         fn deqibur_check_sheet(sheet: *const u8, sheet_len: usize) -> SheetCheck;
     }

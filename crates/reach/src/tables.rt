@@ -86,8 +86,8 @@ fn lower_delay(delays: &mut [u32], site: usize, delay: u64) -> bool
 fn relax<T: Tariff>(leg: &Leg, tariff: &T, costs: &mut [u64], delays: &mut [u32]) -> bool
     requires equal_length { length delays.old ≡ length costs.old }
     requires ends_are_sites { (leg.now.tail < length costs.old) × (leg.now.head < length costs.old) }
-    ensures value { result ≡ relaxes (graph (T.terms tariff.now) []) leg.now (record { costs = costs.entry.now; delays = delays.old }) }
-    ensures after { record { costs = costs.exit.now; delays = delays.new } ≡ relaxed (graph (T.terms tariff.now) []) leg.now (record { costs = costs.entry.now; delays = delays.old }) }
+    ensures value { result ≡ relaxes (graph (T.terms tariff.now) []) leg.now (record { costs = costs.old; delays = delays.old }) }
+    ensures after { record { costs = costs.new; delays = delays.new } ≡ relaxed (graph (T.terms tariff.now) []) leg.now (record { costs = costs.old; delays = delays.old }) }
 {
     let onward = delays[leg.head as usize];
     if onward == u32::MAX {
@@ -104,8 +104,8 @@ fn relax<T: Tariff>(leg: &Leg, tariff: &T, costs: &mut [u64], delays: &mut [u32]
 fn pass<T: Tariff>(legs: &[Leg], tariff: &T, costs: &mut [u64], delays: &mut [u32]) -> bool
     requires equal_length { length delays.old ≡ length costs.old }
     requires legs_in_range { (j : ℕ) → j < length legs.now → leg_in_range (length costs.old) (slice_index_or legs.now j no_leg) ≡ true }
-    ensures value { result ≡ changes (graph (T.terms tariff.now) legs.now) legs.now (record { costs = costs.entry.now; delays = delays.old }) }
-    ensures after { record { costs = costs.exit.now; delays = delays.new } ≡ passed (graph (T.terms tariff.now) legs.now) legs.now (record { costs = costs.entry.now; delays = delays.old }) }
+    ensures value { result ≡ changes (graph (T.terms tariff.now) legs.now) legs.now (record { costs = costs.old; delays = delays.old }) }
+    ensures after { record { costs = costs.new; delays = delays.new } ≡ passed (graph (T.terms tariff.now) legs.now) legs.now (record { costs = costs.old; delays = delays.old }) }
 {
     let mut changed = false;
     for leg in legs {
