@@ -34,8 +34,8 @@ fn memory_short() -> Written
     Written { length: 0, code: 2 }
 }
 
-// Answers the plans of a sheet, of at most 16,384 bytes, by the text that the batch program writes, and puts it into a
-// buffer.
+// Answers the plans of the sheet that the first 16,384 bytes are, by the text that the batch program writes, and puts it
+// into a buffer.
 #[unsafe(no_mangle)]
 pub extern "C" fn deqibur_plan_sheet(heap: Global, sheet: &[u8], output: &mut [u8]) -> Written
     ensures { Answered sheet.now output.old output.new result }

@@ -96,20 +96,20 @@ fn told(verdict: Verdict) -> Answer
     }
 }
 
-fn answer_of(res: Result<Verdict, Refusal>) -> Answer
-    ensures { result ≡ answer_record res }
+fn answer_of(served: Result<Verdict, Refusal>) -> Answer
+    ensures { result ≡ answer_record served }
 {
-    match res {
+    match served {
         Ok(verdict) => told(verdict),
         Err(why) => refused(why),
     }
 }
 
 // The answer, or that memory is short.
-fn or_short(res: Result<Answer, AllocError>) -> Answer
-    ensures { result ≡ or_short res }
+fn or_short(answer: Result<Answer, AllocError>) -> Answer
+    ensures { result ≡ or_short answer }
 {
-    match res {
+    match answer {
         Ok(answer) => answer,
         Err(_) => Answer {
             steps: 0,

@@ -16,6 +16,7 @@ pub trait Tariff {
     fn join(&self, a: u64, b: u64) -> u64
         ensures { result ≡ (terms self.now).join a b };
 
+    // What every tariff proves.
     ghost lawful: { (tariff : Self) → Lawful (terms tariff) };
 }
 

@@ -55,5 +55,5 @@ pub record Fulfils (g : Ground) (p : Plan) (d : Desk) (v : Verdict) (e : Desk) :
   pub enough_room_never_stops : HasRoom g p d → (why : Stop) → v.standing ≢ Stopped why
   pub enough_of_both_ends : HasRoom g p d → 2 + g.net.legs * (p.limit + 1) ≤ left_for d.tally p.broker → HasEnded v
   -- A plan that was served has been searched for, and the steps of the search, no more than were left, are what the tally lost.
-  pub never_fresh : v.standing ≡ Fresh → ⊥
+  pub never_fresh : v.standing ≢ Fresh
   pub steps_come_off : left_for e.tally p.broker + v.steps ≡ left_for d.tally p.broker

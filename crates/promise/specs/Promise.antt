@@ -36,7 +36,7 @@ pub data Answered (s : Setting) (js : List ℕ) (v : Verdict) : Call → Answer 
   -- Where none applies, the search is open and has made no step.
   opened : (q : Query) → open_refusal s q ≡ None → Answered s js v (call.Open q) (Opened (Ok tt)) (record { standing = Open; steps = 0 })
   -- Advance is refused by 13 where the search is not open.
-  advance_refused : (k : ℕ) → (v.standing ≢ Open) → Answered s js v (call.Advance k) (Advanced (Err NotOpen)) v
+  advance_refused : (k : ℕ) → v.standing ≢ Open → Answered s js v (call.Advance k) (Advanced (Err NotOpen)) v
   -- Where it is, n of the k allowed steps are made, all of them if it is still open then, and are counted up to 2^64 - 1.
   advanced : (k n : ℕ) (u : Verdict) → v.standing ≡ Open → n ≤ k → (u.standing ≡ Open → n ≡ k) → u.steps ≡ min (v.steps + n) (2 ^ 64 - 1)
       → Answered s js v (call.Advance k) (Advanced (Ok n)) u
@@ -77,8 +77,8 @@ pub record Tells (s : Setting) (q : Query) (os : List Mark) (n : ℕ) (js : List
   pub enough_room_never_stops : HasRoom s q → (why : Stop) → v.standing ≢ Stopped why
   pub enough_steps_end : HasRoom s q → 1 + enough_for s q ≤ n → HasEnded v
   -- No number ever leads outside its table, and a search that was opened is not fresh.
-  pub never_outside : v.standing ≡ Stopped Outside → ⊥
-  pub never_fresh : v.standing ≡ Fresh → ⊥
+  pub never_outside : v.standing ≢ Stopped Outside
+  pub never_fresh : v.standing ≢ Fresh
 
 -- The same by the question of the last accepted open: before the first, the verdict is that on a fresh search.
 abbrev pub TellsOf : Setting → Option Query → List Mark → ℕ → List ℕ → Verdict → Type 0

@@ -1,6 +1,5 @@
 // Any list of calls on a worksheet, and what each was answered.
 ghost use Rattle.std.specs.Prelude.{◌≡◌, map, reverse, length, take, IfOk, OnOk};
-ghost use Rattle.std.specs.Vec.{vec_items};
 ghost use Rattle.search.specs.declared.record.Search.{Search};
 ghost use Rattle.search.specs.Calls.{setting, worksheet};
 ghost use Rattle.promise.specs.declared.calls.Event.{Event};

@@ -42,6 +42,7 @@ pub trait Queue {
     fn capacity(&self) -> usize
         ensures { result ≡ room self.now };
 
+    // What every queue proves: a bag rises, and is never larger than the capacity.
     ghost rises: { (q : Self) → Rising (bag q) };
 
     ghost fits: { (q : Self) → length (bag q) ≤ room q };

@@ -9,15 +9,15 @@ use Rattle.search.specs.Calls.{worksheet, Traced, tracing}
 use Rattle.promise.specs.Conduct.{search_of}
 use Rattle.planner.specs.declared.tally.Tally.{Tally}
 use Rattle.planner.specs.Serves.{desk}
-use Rattle.planner.specs.Serves as planner
+use Rattle.planner.specs.Serves as serving
 use Rattle.report.specs.declared.desk.Desk.{Desk}
 
 -- What stands on a desk.
-abbrev pub desk_of : Desk → planner.Desk
+abbrev pub desk_of : Desk → serving.Desk
 desk_of d = desk d.costs d.delays (worksheet d.search d.labels d.least (bagged (vec_items d.queue.items))) d.tally
 
 -- A desk for 64 sites with 1,024 label records: its search record is fresh, its tally is this one, and its tables hold anything.
-pub record Prepared (tally : Tally) (d : planner.Desk) : Type 0 where
+pub record Prepared (tally : Tally) (d : serving.Desk) : Type 0 where
   pub costs : length d.costs ≡ 64
   pub delays : length d.delays ≡ 64
   pub labels : length d.sheet.state.labels ≡ 1024

@@ -27,8 +27,8 @@ abbrev pub next_at : List ℕ → ℕ → ℕ → ℕ → Next
 next_at sheet n at line = next_from true n at line (lines (drop at sheet))
 
 -- The plans from a place and line on, served one after another at a desk, are answered by this text and end so: with none left,
--- or with a refusal, of a line by the reader, which carries that line, or of its plan by serve. Each plan that is served has its line, which says what it is
--- promised, and the next is served at the desk as it is then.
+-- or with a refusal, of a line by the reader, which carries that line, or of its plan by serve. Each plan that is served has its
+-- line, which says what it is promised, and the next is served at the desk as it is then.
 pub data PlansTold (g : Ground) (sheet : List ℕ) : ℕ → ℕ → Desk → List ℕ → Option Refused → Type 0 where
   none_left : (at line : ℕ) (d : Desk) → (next_at sheet g.net.sites at line).answer ≡ Ok None → PlansTold g sheet at line d [] None
   line_refused : (at line : ℕ) (d : Desk) (why : Refusal) → (next_at sheet g.net.sites at line).answer ≡ Err why → place_of why ≡ Some (place.Line line)

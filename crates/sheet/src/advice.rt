@@ -1,7 +1,7 @@
 // What a refusal tells whoever typed a sheet.
 use network::refusals::Refusal;
 
-// What is wrong, in a sentence. The programs write it to standard error; no format rests on it.
+// What is wrong, in a sentence. The program writes it to standard error; no format rests on it.
 pub fn advice(refusal: &Refusal) -> &'static str {
     match refusal {
         Refusal::Unended(_) =>

@@ -80,8 +80,8 @@ pub record Known (p : Problem) (w : State) (os : List Mark) (k : ℕ) (s : State
   pub found_is_next : (i : ℕ) (m : Mark) → s.phase ≡ Found i m → NextOffer p os (trace s.labels i) m
   pub found_is_written : (i : ℕ) (m : Mark) → s.phase ≡ Found i m → i < s.count
   pub exhausted_means_all_offered : s.phase ≡ Exhausted → (js : List ℕ) → RouteOf p js → Offered os (walk_mark p.graph js)
-  pub never_fresh : s.phase ≡ Fresh → ⊥
-  pub never_outside : s.phase ≡ Stopped Outside → ⊥
+  pub never_fresh : s.phase ≢ Fresh
+  pub never_outside : s.phase ≢ Stopped Outside
   pub enough_room_never_stops : enough p ≤ length w.labels → enough p ≤ p.capacity → (why : Stop) → s.phase ≢ Stopped why
   pub enough_steps_end : s.phase ≡ Open → k < 2 + length p.graph.legs * (p.limit + 1)
   pub steps_counted : s.steps ≡ min k (2 ^ 64 - 1)

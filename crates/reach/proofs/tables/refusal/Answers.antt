@@ -1,3 +1,4 @@
+use Rattle.std.proofs.Common.{arith}
 use Rattle.std.proofs.lemmas.Bool.{and_left, and_right, lt-leb}
 use Rattle.reach.proofs.Refusing.{refused_by_network, refused_by_site, refused_by_room}
 use Rattle.reach.proofs.tables.refusal.Goals as goal
@@ -7,7 +8,7 @@ pub returns-in-Some : goal.returns-in-Some
 returns-in-Some c = refused_by_network _ _ _ _ _ _ c.in-Some.ensures
 
 pub returns-then-goal-network : goal.returns-then-goal-network
-returns-then-goal-network c = refused_by_site _ _ _ _ _ c.in_default.ensures c.if-goal-network.true
+returns-then-goal-network c = refused_by_site _ _ _ _ _ c.in_default.ensures (omega arith)
 
 pub returns-then-costs-network : goal.returns-then-costs-network
 returns-then-costs-network c =
