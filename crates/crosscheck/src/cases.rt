@@ -1,41 +1,24 @@
 // Known cases, each of which tells a wrong reading of the problem from the right one.
-use crate::comparing::by_heap;
 use crate::draws::Question;
 use crate::report::Report;
 use crate::runs::*;
 use crate::second::Rate;
 use crate::tasks::Task;
+use figures::network_a::{leg, legs_a, network_a};
 use network::estimates::*;
 use network::legs::*;
 use network::tariffs::*;
+use queues::heap::Heap;
 use search::record::*;
 use std::alloc::{AllocError, Global};
 use std::io;
 use worksheet::records::*;
 
-fn leg(tail: u16, head: u16, fee: u32, grade: u8, stated: u32) -> Leg {
-    Leg {
-        tail,
-        head,
-        fee,
-        grade,
-        stated,
-        medium: 0,
-    }
-}
-
-// Four sites, and routes from 0 to 3 by 1 (fee 4, delay 9), by 2 (fee 5, delay 3) and straight (fee 9, delay 1).
+// Network A: routes from 0 to 3 by 1 (fee 4, delay 9), by 2 (fee 5, delay 3) and straight (fee 9, delay 1).
 fn four_sites(heap: Global, limit: u32) -> Result<Question, AllocError> {
-    let legs = vec![in heap;
-        leg(0, 1, 2, 3, 4),
-        leg(1, 3, 2, 1, 5),
-        leg(0, 2, 4, 2, 1),
-        leg(2, 3, 1, 2, 2),
-        leg(0, 3, 9, 1, 1),
-    ]?;
     Ok(Question {
-        network: Network { sites: 4, legs: 5 },
-        legs,
+        network: network_a(),
+        legs: Vec::from_array(heap, legs_a())?,
         query: Query {
             start: 0,
             goal: 3,
@@ -59,34 +42,33 @@ fn cheaper_or_sooner(heap: Global) -> Result<Question, AllocError> {
 }
 
 // What a case's search came to.
-fn print_route(rt: &HostRuntime, name: &str, outcome: &Outcome) -> io::Result<()> {
-    let standing = outcome.verdict.standing;
-    let route = outcome.route.as_slice();
-    match standing {
-        Standing::Found(Mark { cost, delay }) => println!(rt;
-            "case,{name},cost {cost},delay {delay},legs {route:?}"
-        ),
-        _ => println!(rt; "case,{name},not found"),
-    }
+fn print_route(rt: &impl Print, name: &str, outcome: &Outcome) -> io::Result<()> {
+    let Standing::Found(Mark { cost, delay }) = outcome.verdict.standing else {
+        return println!(rt; "case,{name},not found");
+    };
+    let route = &outcome.route;
+    println!(rt; "case,{name},cost {cost},delay {delay},legs {route:?}")
 }
 
 // Plans a case by total fee with the blank estimate, notes where the second implementation differs, and prints the route.
 fn print_case(
-    rt: &HostRuntime,
+    rt: &(impl Print + AllocGlobal),
     name: &str,
     question: &Question,
     report: &mut Report,
 ) -> io::Result<()> {
     let means = question.enough();
-    let outcome = by_heap(rt.alloc(), question, means, &TotalFee, &Blank)?;
-    let task = Task::new(rt.alloc(), 0, question, Rate::Fees)?;
+    let heap = rt.alloc();
+    let mut queue = Heap::new(heap, means.entries)?;
+    let outcome = run(heap, question, means, &mut queue, &TotalFee, &Blank)?;
+    let task = Task::new(heap, 0, question, Rate::Fees)?;
     report.note(0, task.difference(means, &outcome))?;
     print_route(rt, name, &outcome)
 }
 
 // All cases. Were the delay counted from after the first leg, the first would take legs 0 and 1; with one label for each site,
 // the second would find none; ended when a label at the goal is written, the third would take leg 4.
-pub fn print_cases(rt: &HostRuntime, report: &mut Report) -> io::Result<()> {
+pub fn print_cases(rt: &(impl Print + AllocGlobal), report: &mut Report) -> io::Result<()> {
     let heap = rt.alloc();
     print_case(
         rt,

@@ -12,17 +12,31 @@ use reach::tables::reach;
 use search::record::*;
 use std::alloc::{AllocError, Global};
 
+// What reach writes for a site that is cut off.
+const CUT_OFF: Figures = Figures {
+    cost: u64::MAX,
+    delay: u32::MAX as u64,
+};
+
 // What one network's searches are given: just enough; few label records; a small queue; and few steps, in several advances.
 fn drawn_means(draws: &mut Draws, question: &Question) -> [Means; 4] {
     let enough = question.enough();
-    let mut few_labels = enough;
-    few_labels.labels = draws.up_to(4) as usize + 1;
-    let mut few_entries = enough;
-    few_entries.entries = draws.up_to(2) as usize + 1;
-    let mut few_steps = enough;
-    few_steps.advances = draws.up_to(3) + 1;
-    few_steps.allowance = draws.up_to(2) as u32 + 1;
-    [enough, few_labels, few_entries, few_steps]
+    [
+        enough,
+        Means {
+            labels: usize::from(draws.up_to(4)) + 1,
+            ..enough
+        },
+        Means {
+            entries: usize::from(draws.up_to(2)) + 1,
+            ..enough
+        },
+        Means {
+            advances: draws.up_to(3) + 1,
+            allowance: u32::from(draws.up_to(2)) + 1,
+            ..enough
+        },
+    ]
 }
 
 // Compares what a search came to.
@@ -32,7 +46,7 @@ fn compare_search(
     outcome: &Outcome,
     report: &mut Report,
 ) -> Result<(), AllocError> {
-    count(&mut report.searches, true);
+    count(&mut report.searches, 1);
     report.standings.add(outcome.verdict.standing);
     report.note(task.seed, task.difference(means, outcome))
 }
@@ -48,35 +62,11 @@ fn compare_queues(
     compare_search(task, means, one, report)?;
     compare_search(task, means, other, report)?;
     let agree = one.verdict == other.verdict && one.route == other.route;
-    count(&mut report.pairs, true);
+    count(&mut report.pairs, 1);
     report.note(task.seed, unless(agree, Difference::Queues))
 }
 
-// What a search comes to with a binary heap.
-pub fn by_heap<T: Tariff, E: Estimate>(
-    heap: Global,
-    question: &Question,
-    means: Means,
-    tariff: &T,
-    estimate: &E,
-) -> Result<Outcome, AllocError> {
-    let mut queue = Heap::new(heap, means.entries)?;
-    run(heap, question, means, &mut queue, tariff, estimate)
-}
-
-// What a search comes to with a sorted row.
-fn by_row<T: Tariff, E: Estimate>(
-    heap: Global,
-    question: &Question,
-    means: Means,
-    tariff: &T,
-    estimate: &E,
-) -> Result<Outcome, AllocError> {
-    let mut queue = Row::new(heap, means.entries)?;
-    run(heap, question, means, &mut queue, tariff, estimate)
-}
-
-// Compares the searches with one estimate, by each means and with each queue.
+// Compares the searches with one estimate, by each means and with each queue: a binary heap and a sorted row.
 fn compare_searches<T: Tariff, E: Estimate>(
     heap: Global,
     task: Task,
@@ -85,33 +75,32 @@ fn compare_searches<T: Tariff, E: Estimate>(
     estimate: &E,
     report: &mut Report,
 ) -> Result<(), AllocError> {
+    let question = task.question;
     for means in means {
-        let one = by_heap(heap, task.question, *means, tariff, estimate)?;
-        let other = by_row(heap, task.question, *means, tariff, estimate)?;
+        let mut binary = Heap::new(heap, means.entries)?;
+        let mut sorted = Row::new(heap, means.entries)?;
+        let one = run(heap, question, *means, &mut binary, tariff, estimate)?;
+        let other = run(heap, question, *means, &mut sorted, tariff, estimate)?;
         compare_queues(task, *means, &one, &other, report)?;
     }
     Ok(())
 }
 
-// Whether reach's records of a site are the least over all walks: both maxima mark a site that is cut off.
-fn agrees(cost: u64, delay: u32, nearest: Option<Figures>) -> bool {
-    match nearest {
-        Some(figures) => cost == figures.cost && delay as u64 == figures.delay,
-        None => cost == u64::MAX && delay == u32::MAX,
-    }
+// Reach's records of a site.
+fn records(tables: &Reached, site: u16) -> Option<Figures> {
+    let cost = *tables.costs.get(usize::from(site))?;
+    let delay = *tables.delays.get(usize::from(site))?;
+    Some(Figures {
+        cost,
+        delay: u64::from(delay),
+    })
 }
 
-// Whether reach's tables agree at every site.
-fn tables_agree(
-    heap: Global,
-    task: Task,
-    costs: &[u64],
-    delays: &[u32],
-) -> Result<bool, AllocError> {
-    for site in 0..task.question.network.sites {
-        let i = site as usize;
-        let nearest = task.nearest(heap, site)?;
-        if i >= costs.len() || i >= delays.len() || !agrees(costs[i], delays[i], nearest) {
+// Whether reach's records of every site are the least over all walks.
+fn tables_agree(heap: Global, task: Task, tables: &Reached) -> Result<bool, AllocError> {
+    for site in 0..task.graph.sites {
+        let nearest = task.nearest(heap, site)?.unwrap_or(CUT_OFF);
+        if records(tables, site) != Some(nearest) {
             return Ok(false);
         }
     }
@@ -122,16 +111,15 @@ fn tables_agree(
 fn compare_tables(
     heap: Global,
     task: Task,
-    costs: &[u64],
-    delays: &[u32],
+    tables: &Reached,
     report: &mut Report,
 ) -> Result<(), AllocError> {
     let without_limit = task.nearest(heap, task.question.query.start)?;
     if let (Some(route), Some(walk)) = (task.cheapest, without_limit) {
         report.shapes.add_route(route.cost, walk.cost);
     }
-    let agree = tables_agree(heap, task, costs, delays)?;
-    count(&mut report.tables, true);
+    let agree = tables_agree(heap, task, tables)?;
+    count(&mut report.tables, 1);
     report.note(task.seed, unless(agree, Difference::Reach))
 }
 
@@ -155,12 +143,12 @@ fn compare_tariff<T: Tariff>(
         &mut costs,
         &mut delays,
     );
-    compare_tables(heap, task, &costs, &delays, report)?;
-    compare_searches(heap, task, means, tariff, &Blank, report)?;
     let reached = Reached {
-        costs: costs.as_slice(),
-        delays: delays.as_slice(),
+        costs: &costs,
+        delays: &delays,
     };
+    compare_tables(heap, task, &reached, report)?;
+    compare_searches(heap, task, means, tariff, &Blank, report)?;
     compare_searches(heap, task, means, tariff, &reached, report)
 }
 
@@ -173,7 +161,7 @@ pub fn compare_network(heap: Global, seed: u32, report: &mut Report) -> Result<(
     compare_tariff(heap, by_fees, &means, &TotalFee, report)?;
     let by_grades = Task::new(heap, seed, &question, Rate::Grades)?;
     compare_tariff(heap, by_grades, &means, &WorstGrade, report)?;
-    count(&mut report.networks, true);
+    count(&mut report.networks, 1);
     report.shapes.add_legs(&question.legs);
     Ok(())
 }

@@ -21,7 +21,9 @@ pub struct Question {
 
 impl Draws {
     pub fn new(seed: u32) -> Draws {
-        Draws { state: seed as u64 }
+        Draws {
+            state: u64::from(seed),
+        }
     }
 
     // The next number, from 0 to `most`.
@@ -33,7 +35,7 @@ impl Draws {
             .wrapping_mul(6_364_136_223_846_793_005)
             .wrapping_add(1_442_695_040_888_963_407);
         let upper = self.state >> 32;
-        (upper % (most as u64 + 1)) as u16
+        (upper % (u64::from(most) + 1)) as u16
     }
 
     // One of the sites 0 to `last`; the site `other` is drawn once more, so that it is rare.
@@ -62,9 +64,9 @@ impl Draws {
         Leg {
             tail,
             head,
-            fee: fee as u32,
+            fee: u32::from(fee),
             grade: grade as u8,
-            stated: stated as u32,
+            stated: u32::from(stated),
             medium: medium as u8,
         }
     }
@@ -73,12 +75,9 @@ impl Draws {
     pub fn question(&mut self, heap: Global) -> Result<Question, AllocError> {
         let last = self.up_to(5);
         let count = self.up_to(8) + self.up_to(8);
-        let mut legs = Vec::new(heap);
-        for _ in 0..count {
-            legs.push(self.leg(last))?;
-        }
+        let legs = (0..count).map(|_| self.leg(last)).collect(heap)?;
         let network = Network {
-            sites: last.saturating_add(1),
+            sites: last + 1,
             legs: count,
         };
         let start = self.up_to(last);
@@ -87,7 +86,7 @@ impl Draws {
         let query = Query {
             start,
             goal,
-            limit: self.up_to(most) as u32,
+            limit: u32::from(self.up_to(most)),
         };
         Ok(Question {
             network,

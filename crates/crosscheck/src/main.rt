@@ -15,7 +15,7 @@ use crate::comparing::compare_network;
 use crate::report::Report;
 use std::io;
 
-const NETWORKS: u32 = 5000;
+const NETWORKS: u32 = 5_000;
 
 fn main(rt: HostRuntime) -> io::Result<()> {
     let mut report = Report::new(rt.alloc());

@@ -1,5 +1,5 @@
 // What was compared: how many of each kind, and every difference.
-ghost use Rattle.std.specs.Prelude.{◌≡◌, ◌+◌, ◌-◌, ◌^◌, min, if◌then◌else◌};
+ghost use Rattle.std.specs.Prelude.{◌≡◌, ◌+◌, ◌-◌, ◌^◌, min};
 
 use crate::second::delay_of;
 use crate::tasks::*;
@@ -10,7 +10,7 @@ use std::alloc::{AllocError, Global};
 use std::io;
 
 // Every kind of search, route and leg is to be met so often.
-const OFTEN: u32 = 500;
+const OFTEN: usize = 500;
 
 // A difference, and the seed of the network in which it showed.
 #[derive(Clone, Copy)]
@@ -22,58 +22,56 @@ struct Finding {
 // How many searches came to what.
 #[derive(Clone, Copy, Default)]
 pub struct Standings {
-    found: u32,
-    exhausted: u32,
-    out_of_labels: u32,
-    out_of_entries: u32,
-    open: u32,
+    found: usize,
+    exhausted: usize,
+    out_of_labels: usize,
+    out_of_entries: usize,
+    open: usize,
 }
 
 // How many routes are dearer for the limit than the cheapest walk; how many legs lead from a site to itself, take no time or
 // have a handover delay; and how many pairs of legs have the same ends.
 #[derive(Clone, Copy, Default)]
 pub struct Shapes {
-    dearer: u32,
-    loops: u32,
-    instant: u32,
-    handovers: u32,
-    parallel: u32,
+    dearer: usize,
+    loops: usize,
+    instant: usize,
+    handovers: usize,
+    parallel: usize,
 }
 
 // How many networks, tables of reach, searches and pairs of searches were compared, of what kinds, and what differed.
 #[derive(Drop)]
 pub struct Report {
-    pub networks: u32,
-    pub tables: u32,
-    pub searches: u32,
-    pub pairs: u32,
+    pub networks: usize,
+    pub tables: usize,
+    pub searches: usize,
+    pub pairs: usize,
     pub standings: Standings,
     pub shapes: Shapes,
     findings: Vec<Finding>,
 }
 
-// Counts one more, if it is one.
-pub fn count(tally: &mut u32, one: bool)
-    ensures { tally.new ≡ (if one then min (tally.old + 1) (2 ^ 32 - 1) else tally.old) }
+// Counts so many more.
+pub fn count(tally: &mut usize, more: usize)
+    ensures { tally.new ≡ min (tally.old + more) (2 ^ 64 - 1) }
 {
-    if one {
-        *tally = tally.saturating_add(1);
-    }
+    *tally = tally.saturating_add(more);
 }
 
 impl Standings {
     pub fn add(&mut self, standing: Standing) {
         match standing {
-            Standing::Found(_) => count(&mut self.found, true),
-            Standing::Exhausted => count(&mut self.exhausted, true),
-            Standing::Stopped(Stop::LabelsUsed) => count(&mut self.out_of_labels, true),
-            Standing::Stopped(Stop::QueueFull) => count(&mut self.out_of_entries, true),
-            Standing::Open => count(&mut self.open, true),
+            Standing::Found(_) => count(&mut self.found, 1),
+            Standing::Exhausted => count(&mut self.exhausted, 1),
+            Standing::Stopped(Stop::LabelsUsed) => count(&mut self.out_of_labels, 1),
+            Standing::Stopped(Stop::QueueFull) => count(&mut self.out_of_entries, 1),
+            Standing::Open => count(&mut self.open, 1),
             Standing::Fresh | Standing::Stopped(Stop::Outside) => {}
         }
     }
 
-    fn print(&self, rt: &HostRuntime) -> io::Result<()> {
+    fn print(&self, rt: &impl Print) -> io::Result<()> {
         print_kind(rt, "found", self.found)?;
         print_kind(rt, "none", self.exhausted)?;
         print_kind(rt, "stopped for labels", self.out_of_labels)?;
@@ -84,24 +82,28 @@ impl Standings {
 
 impl Shapes {
     pub fn add_route(&mut self, cost: u64, without_limit: u64) {
-        count(&mut self.dearer, cost > without_limit);
-    }
-
-    pub fn add_legs(&mut self, legs: &[Leg]) {
-        for (i, leg) in legs.iter().enumerate() {
-            count(&mut self.loops, leg.tail == leg.head);
-            count(&mut self.instant, delay_of(leg) == 0);
-            count(&mut self.handovers, leg.medium > 0);
-            for other in &legs[0..i] {
-                count(
-                    &mut self.parallel,
-                    leg.tail == other.tail && leg.head == other.head,
-                );
-            }
+        if cost > without_limit {
+            count(&mut self.dearer, 1);
         }
     }
 
-    fn print(&self, rt: &HostRuntime) -> io::Result<()> {
+    pub fn add_legs(&mut self, legs: &[Leg]) {
+        let loops = legs.iter().filter(|leg| leg.tail == leg.head);
+        let instant = legs.iter().filter(|leg| delay_of(leg) == 0);
+        let handovers = legs.iter().filter(|leg| leg.medium > 0);
+        count(&mut self.loops, loops.count());
+        count(&mut self.instant, instant.count());
+        count(&mut self.handovers, handovers.count());
+        for (i, leg) in legs.iter().enumerate() {
+            let same_ends = |other: &&Leg| (other.tail, other.head) == (leg.tail, leg.head);
+            count(
+                &mut self.parallel,
+                legs[..i].iter().filter(same_ends).count(),
+            );
+        }
+    }
+
+    fn print(&self, rt: &impl Print) -> io::Result<()> {
         print_kind(rt, "dearer for the limit", self.dearer)?;
         print_kind(rt, "legs from a site to itself", self.loops)?;
         print_kind(rt, "legs that take no time", self.instant)?;
@@ -111,7 +113,7 @@ impl Shapes {
 }
 
 // Whether a kind was met often.
-fn print_kind(rt: &HostRuntime, kind: &str, count: u32) -> io::Result<()> {
+fn print_kind(rt: &impl Print, kind: &str, count: usize) -> io::Result<()> {
     let answer = if count >= OFTEN { "yes" } else { "no" };
     println!(rt; "{kind},at least {OFTEN},{answer}")
 }
@@ -138,11 +140,14 @@ impl Report {
     }
 
     // Prints what was compared, whether every kind was met often, and every difference.
-    pub fn print(&self, rt: &HostRuntime) -> io::Result<()> {
-        let networks = self.networks;
-        let tables = self.tables;
-        let searches = self.searches;
-        let pairs = self.pairs;
+    pub fn print(&self, rt: &impl Print) -> io::Result<()> {
+        let Report {
+            networks,
+            tables,
+            searches,
+            pairs,
+            ..
+        } = self;
         println!(rt; "networks,{networks}\nreach,{tables}\nsearches,{searches}\nqueues,{pairs}")?;
         self.standings.print(rt)?;
         self.shapes.print(rt)?;
@@ -151,10 +156,8 @@ impl Report {
 }
 
 // Each difference with its seed, and their number.
-fn print_findings(rt: &HostRuntime, findings: &[Finding]) -> io::Result<()> {
-    for finding in findings {
-        let seed = finding.seed;
-        let what = finding.what;
+fn print_findings(rt: &impl Print, findings: &[Finding]) -> io::Result<()> {
+    for Finding { seed, what } in findings {
         println!(rt; "difference,{seed},{what:?}")?;
     }
     let count = findings.len();

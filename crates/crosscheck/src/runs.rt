@@ -28,7 +28,7 @@ pub struct Outcome {
 
 impl Question {
     pub fn sites(&self) -> usize {
-        self.network.sites as usize
+        usize::from(self.network.sites)
     }
 
     // With so many label records and entries a search is never stopped.
@@ -42,7 +42,7 @@ impl Question {
     pub fn enough_steps(&self) -> u64
         ensures { result ≡ 2 + self.now.network.legs * (self.now.query.limit + 1) }
     {
-        2 + self.network.legs as u64 * (self.query.limit as u64 + 1)
+        2 + u64::from(self.network.legs) * (u64::from(self.query.limit) + 1)
     }
 
     // Just the room and the steps that are enough.
@@ -52,7 +52,7 @@ impl Question {
             labels: room,
             entries: room,
             advances: 1,
-            allowance: self.enough_steps().min(u32::MAX as u64) as u32,
+            allowance: u32::try_from(self.enough_steps()).unwrap_or(u32::MAX),
         }
     }
 }
@@ -62,7 +62,7 @@ impl Means {
     pub fn allowed(&self) -> u64
         ensures { result ≡ self.now.advances * self.now.allowance }
     {
-        self.advances as u64 * self.allowance as u64
+        u64::from(self.advances) * u64::from(self.allowance)
     }
 }
 
@@ -78,7 +78,7 @@ fn advanced<Q: Queue, T: Tariff, E: Estimate>(
     estimate: &E,
 ) -> u64 {
     let network = &question.network;
-    let table = question.legs.as_slice();
+    let table = &question.legs;
     let query = question.query;
     let _ = search.open(
         query, network, table, labels, least, queue, tariff, estimate,
@@ -89,7 +89,7 @@ fn advanced<Q: Queue, T: Tariff, E: Estimate>(
         let made = search.advance(
             allowance, network, table, labels, least, queue, tariff, estimate,
         );
-        answered = answered.saturating_add(made.unwrap_or(0) as u64);
+        answered = answered.saturating_add(u64::from(made.unwrap_or(0)));
     }
     answered
 }

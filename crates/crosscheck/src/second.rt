@@ -4,12 +4,15 @@
 // cost of all walks from the start that end there and take exactly that long; legs are followed from every cell until no
 // cell falls. What a site's walks to a goal cost and take at the least is read off a list of all walks that enter no site twice.
 // Of the planner's code neither uses more than the plain records of legs.
-ghost use Rattle.std.specs.Prelude.{◌≡◌, ◌+◌, ◌-◌, ◌*◌, ◌^◌, ◌≤◌, min, if◌then◌else◌, Some, None, nat_lt};
+ghost use Rattle.std.specs.Prelude.{◌≡◌, ◌+◌, ◌-◌, ◌^◌, ◌≤◌, min};
 ghost use Rattle.network.specs.Legs.{handover as handover_of, leg_delay};
 ghost use Rattle.crosscheck.specs.Rates.{terms_of};
 
 use network::legs::Leg;
 use std::alloc::{AllocError, Global};
+
+// The handover delay of each medium, in microseconds.
+const HANDOVERS: [u64; 8] = [0, 5, 12, 20, 35, 60, 90, 150];
 
 // How a walk is priced: by its fees in all, or by its worst grade.
 #[derive(Clone, Copy)]
@@ -18,8 +21,16 @@ pub enum Rate {
     Grades,
 }
 
-// What a walk comes to.
+// The legs of a network, how many sites it has, and how its walks are priced.
 #[derive(Clone, Copy)]
+pub struct Graph<'a> {
+    pub sites: u16,
+    pub legs: &'a [Leg],
+    pub rate: Rate,
+}
+
+// What a walk comes to: the empty walk costs nothing and takes no time.
+#[derive(Clone, Copy, PartialEq, Eq, Default)]
 pub struct Figures {
     pub cost: u64,
     pub delay: u64,
@@ -38,8 +49,8 @@ impl Rate {
         ensures { result ≡ (terms_of self.now).price leg.now.fee leg.now.grade }
     {
         match self {
-            Rate::Fees => leg.fee as u64,
-            Rate::Grades => leg.grade as u64,
+            Rate::Fees => u64::from(leg.fee),
+            Rate::Grades => u64::from(leg.grade),
         }
     }
 
@@ -69,11 +80,7 @@ fn handover(medium: u8) -> u64
     ensures value { result ≡ handover_of medium }
     ensures bound { result ≤ 150 }
 {
-    let handovers = [0, 5, 12, 20, 35, 60, 90, 150];
-    if medium > 7 {
-        return 0;
-    }
-    handovers[medium as usize]
+    HANDOVERS.get(usize::from(medium)).copied().unwrap_or(0)
 }
 
 // The leg's delay: what is stated, and the handover delay of its medium.
@@ -83,121 +90,66 @@ pub fn delay_of(leg: &Leg) -> u64
     leg.stated as u64 + handover(leg.medium)
 }
 
-// The least cost of the walks from the start to each site that take exactly each delay below `width`; none where there is no
-// such walk.
+// The least cost of the walks from the start to each site that take exactly each delay up to the limit, in a row for each
+// site; none where there is no such walk.
 #[derive(Drop)]
 struct Table {
-    width: u32,
-    cells: Vec<Option<u64>>,
+    limit: u32,
+    rows: Vec<Vec<Option<u64>>>,
 }
 
 impl Table {
-    // The place of the cell of a site and a delay.
-    fn place(&self, site: u16, delay: u64) -> Option<usize>
-        ensures { result ≡ (if nat_lt delay self.now.width then Some (site * self.now.width + delay) else None) }
-    {
-        if delay >= self.width as u64 {
-            return None;
-        }
-        Some(site as usize * self.width as usize + delay as usize)
+    // A table without walks.
+    fn new(heap: Global, sites: u16, limit: u32) -> Result<Table, AllocError> {
+        let row = |_| vec![in heap; None; limit as usize + 1];
+        let rows = (0..sites).map(row).try_collect(heap)?;
+        Ok(Table { limit, rows })
     }
 
     // The cost that stands for a site and a delay.
     fn cost(&self, site: u16, delay: u64) -> Option<u64> {
-        let at = self.place(site, delay)?;
-        if at < self.cells.len() {
-            self.cells[at]
-        } else {
-            None
-        }
+        *self.rows.get(usize::from(site))?.get(delay as usize)?
     }
 
     // Lowers the cell of a site to what a walk comes to, if that costs less, and answers whether it did.
     fn lower(&mut self, site: u16, walk: Figures) -> bool {
-        let Some(at) = self.place(site, walk.delay) else {
+        let row = self.rows.get_mut(usize::from(site));
+        let Some(cell) = row.and_then(|row| row.get_mut(walk.delay as usize)) else {
             return false;
         };
-        if at >= self.cells.len() {
-            return false;
+        let falls = cell.is_none_or(|known| walk.cost < known);
+        if falls {
+            *cell = Some(walk.cost);
         }
-        if let Some(known) = self.cells[at] {
-            if known <= walk.cost {
-                return false;
-            }
-        }
-        self.cells[at] = Some(walk.cost);
-        true
+        falls
     }
 
     // Follows a leg from every cell of its tail, and answers whether a cell fell.
     fn follow(&mut self, leg: &Leg, rate: Rate) -> bool {
         let mut fell = false;
-        for delay in 0..self.width as u64 {
+        for delay in 0..=u64::from(self.limit) {
             if let Some(cost) = self.cost(leg.tail, delay) {
-                if self.lower(leg.head, rate.onward(Figures { cost, delay }, leg)) {
-                    fell = true;
-                }
+                fell |= self.lower(leg.head, rate.onward(Figures { cost, delay }, leg));
             }
         }
         fell
     }
 
     // Follows every leg, and answers whether a cell fell.
-    fn follow_all(&mut self, legs: &[Leg], rate: Rate) -> bool {
+    fn follow_all(&mut self, graph: &Graph) -> bool {
         let mut fell = false;
-        for leg in legs {
-            if self.follow(leg, rate) {
-                fell = true;
-            }
+        for leg in graph.legs {
+            fell |= self.follow(leg, graph.rate);
         }
         fell
     }
 
     // What the cheapest walk to a site comes to, and of those the one that takes least.
     fn cheapest(&self, site: u16) -> Option<Figures> {
-        let mut best: Option<Figures> = None;
-        for delay in 0..self.width as u64 {
-            if let Some(cost) = self.cost(site, delay) {
-                if lies_above(best, cost) {
-                    best = Some(Figures { cost, delay });
-                }
-            }
-        }
-        best
+        (0..=u64::from(self.limit))
+            .filter_map(|delay| self.cost(site, delay).map(|cost| Figures { cost, delay }))
+            .min_by_key(|walk| walk.cost)
     }
-}
-
-// Whether a cost is less than that of the figures, or there are none.
-fn lies_above(figures: Option<Figures>, cost: u64) -> bool {
-    match figures {
-        Some(known) => cost < known.cost,
-        None => true,
-    }
-}
-
-// What the cheapest walk from a start to a goal within a limit comes to, and of those the one that takes least; none where
-// there is no such walk. `sites` is the number of sites. A walk that costs least for its end and delay needs to come to no
-// site twice at one delay, so as many rounds as there are cells are enough.
-pub fn cheapest_within(
-    heap: Global,
-    sites: u16,
-    legs: &[Leg],
-    start: u16,
-    goal: u16,
-    limit: u32,
-    rate: Rate,
-) -> Result<Option<Figures>, AllocError> {
-    let width = limit.saturating_add(1);
-    let cells = vec![in heap; None; sites as usize * width as usize]?;
-    let rounds = cells.len();
-    let mut table = Table { width, cells };
-    let _ = table.lower(start, Figures { cost: 0, delay: 0 });
-    for _ in 0..rounds {
-        if !table.follow_all(legs, rate) {
-            break;
-        }
-    }
-    Ok(table.cheapest(goal))
 }
 
 impl Walk {
@@ -220,75 +172,80 @@ fn bit(site: u16) -> u64 {
     1 << (site % 64)
 }
 
-// All walks that are one of these and a leg more.
-fn longer(heap: Global, walks: &[Walk], legs: &[Leg], rate: Rate) -> Result<Vec<Walk>, AllocError> {
-    let mut longer = Vec::new(heap);
-    for walk in walks {
-        for leg in legs {
-            if let Some(next) = walk.by(leg, rate) {
-                longer.push(next)?;
-            }
-        }
-    }
-    Ok(longer)
-}
-
 // The least cost and, by itself, the least delay of two walks.
-fn least(known: Option<Figures>, walk: Figures) -> Figures {
-    match known {
-        Some(known) => Figures {
-            cost: known.cost.min(walk.cost),
-            delay: known.delay.min(walk.delay),
-        },
-        None => walk,
+fn least(a: Figures, b: Figures) -> Figures {
+    Figures {
+        cost: a.cost.min(b.cost),
+        delay: a.delay.min(b.delay),
     }
 }
 
-// The least cost and, by itself, the least delay of all walks from a site to a goal; none where there is none. No walk gets
-// cheaper or sooner by entering a site twice, and one that does not has fewer legs than there are sites.
-pub fn nearest(
-    heap: Global,
-    sites: u16,
-    legs: &[Leg],
-    site: u16,
-    goal: u16,
-    rate: Rate,
-) -> Result<Option<Figures>, AllocError> {
-    let empty = Walk {
-        site,
-        entered: bit(site),
-        figures: Figures { cost: 0, delay: 0 },
-    };
-    let mut walks = vec![in heap; empty; 1]?;
-    let mut nearest: Option<Figures> = None;
-    for _ in 0..sites {
-        for walk in walks.as_slice() {
-            if walk.site == goal {
-                nearest = Some(least(nearest, walk.figures));
+impl<'a> Graph<'a> {
+    // What the cheapest walk from a start to a goal within a limit comes to, and of those the one that takes least; none where
+    // there is no such walk. A walk that costs least for its end and delay needs to come to no site twice at one delay, so as
+    // many rounds as there are cells are enough.
+    pub fn cheapest_within(
+        &self,
+        heap: Global,
+        start: u16,
+        goal: u16,
+        limit: u32,
+    ) -> Result<Option<Figures>, AllocError> {
+        let mut table = Table::new(heap, self.sites, limit)?;
+        let _ = table.lower(start, Figures::default());
+        for _ in 0..u64::from(self.sites) * (u64::from(limit) + 1) {
+            if !table.follow_all(self) {
+                break;
             }
         }
-        walks = longer(heap, &walks, legs, rate)?;
+        Ok(table.cheapest(goal))
     }
-    Ok(nearest)
-}
 
-// What the legs with these numbers come to; none where they are no walk from the start to the goal.
-pub fn walk_figures(
-    numbers: &[u16],
-    legs: &[Leg],
-    start: u16,
-    goal: u16,
-    rate: Rate,
-) -> Option<Figures> {
-    let mut site = start;
-    let mut figures = Figures { cost: 0, delay: 0 };
-    for number in numbers {
-        let leg = legs.get(*number as usize)?;
-        if leg.tail != site {
-            return None;
-        }
-        site = leg.head;
-        figures = rate.onward(figures, leg);
+    // All walks that are one of these and a leg more.
+    fn longer(&self, heap: Global, walks: &[Walk]) -> Result<Vec<Walk>, AllocError> {
+        let Graph { legs, rate, .. } = *self;
+        walks
+            .iter()
+            .flat_map(|walk| legs.iter().filter_map(move |leg| walk.by(leg, rate)))
+            .collect(heap)
     }
-    if site == goal { Some(figures) } else { None }
+
+    // The least cost and, by itself, the least delay of all walks from a site to a goal; none where there is none. No walk gets
+    // cheaper or sooner by entering a site twice, and one that does not has fewer legs than there are sites.
+    pub fn nearest(
+        &self,
+        heap: Global,
+        site: u16,
+        goal: u16,
+    ) -> Result<Option<Figures>, AllocError> {
+        let empty = Walk {
+            site,
+            entered: bit(site),
+            figures: Figures::default(),
+        };
+        let mut walks = vec![in heap; empty]?;
+        let mut nearest = None;
+        for _ in 0..self.sites {
+            let at_goal = walks.iter().filter(|walk| walk.site == goal);
+            let figures = at_goal.map(|walk| walk.figures);
+            nearest = nearest.into_iter().chain(figures).reduce(least);
+            walks = self.longer(heap, &walks)?;
+        }
+        Ok(nearest)
+    }
+
+    // What the legs with these numbers come to; none where they are no walk from the start to the goal.
+    pub fn walk_figures(&self, numbers: &[u16], start: u16, goal: u16) -> Option<Figures> {
+        let mut site = start;
+        let mut figures = Figures::default();
+        for number in numbers {
+            let leg = self.legs.get(usize::from(*number))?;
+            if leg.tail != site {
+                return None;
+            }
+            site = leg.head;
+            figures = self.rate.onward(figures, leg);
+        }
+        (site == goal).then_some(figures)
+    }
 }

@@ -38,16 +38,25 @@ pub enum Difference {
 pub fn unless(agrees: bool, difference: Difference) -> Option<Difference>
     ensures { result ≡ (if agrees then None else Some difference) }
 {
-    if agrees { None } else { Some(difference) }
+    (!agrees).then_some(difference)
 }
 
-// A question under a rate, the seed that it was drawn from, and what its cheapest route comes to by the second
+impl From<Mark> for Figures {
+    fn from(mark: Mark) -> Figures {
+        Figures {
+            cost: mark.cost,
+            delay: u64::from(mark.delay),
+        }
+    }
+}
+
+// A question, its network under a rate, the seed that they were drawn from, and what its cheapest route comes to by the second
 // implementation.
 #[derive(Clone, Copy)]
 pub struct Task<'a> {
     pub seed: u32,
     pub question: &'a Question,
-    pub rate: Rate,
+    pub graph: Graph<'a>,
     pub cheapest: Option<Figures>,
 }
 
@@ -59,28 +68,23 @@ impl<'a> Task<'a> {
         rate: Rate,
     ) -> Result<Task<'a>, AllocError> {
         let Query { start, goal, limit } = question.query;
-        let sites = question.network.sites;
-        let cheapest = cheapest_within(heap, sites, &question.legs, start, goal, limit, rate)?;
+        let graph = Graph {
+            sites: question.network.sites,
+            legs: &question.legs,
+            rate,
+        };
+        let cheapest = graph.cheapest_within(heap, start, goal, limit)?;
         Ok(Task {
             seed,
             question,
-            rate,
+            graph,
             cheapest,
         })
     }
 
     // What the walks from a site to the goal cost and take at the least, whatever the limit.
     pub fn nearest(&self, heap: Global, site: u16) -> Result<Option<Figures>, AllocError> {
-        let question = self.question;
-        let sites = question.network.sites;
-        nearest(
-            heap,
-            sites,
-            &question.legs,
-            site,
-            question.query.goal,
-            self.rate,
-        )
+        self.graph.nearest(heap, site, self.question.query.goal)
     }
 
     // The difference in a route that was found.
@@ -88,23 +92,13 @@ impl<'a> Task<'a> {
         let Some(cheapest) = self.cheapest else {
             return Some(Difference::Invented);
         };
-        if mark.cost != cheapest.cost || mark.delay as u64 != cheapest.delay {
+        let found = Figures::from(mark);
+        if found != cheapest {
             return Some(Difference::Figures);
         }
-        let query = self.question.query;
-        match walk_figures(
-            route,
-            &self.question.legs,
-            query.start,
-            query.goal,
-            self.rate,
-        ) {
-            Some(walk) => unless(
-                walk.cost == mark.cost && walk.delay == mark.delay as u64,
-                Difference::Route,
-            ),
-            None => Some(Difference::Route),
-        }
+        let Query { start, goal, .. } = self.question.query;
+        let walk = self.graph.walk_figures(route, start, goal);
+        unless(walk == Some(found), Difference::Route)
     }
 
     // Room that is not enough is a reason to stop.

@@ -1,6 +1,5 @@
 -- What a request asks as a plan, and its answer as a record. Assumes nothing.
 use Rattle.std.specs.Prelude.{ℕ, Ok, Err, Result}
-use Rattle.std.specs.declared.alloc.AllocError.{AllocError}
 use Rattle.network.specs.declared.plans.Plan.{Plan}
 use Rattle.network.specs.declared.refusals.Refusal.{Refusal}
 use Rattle.network.specs.Refusals.{number_of, stop_number_of}
@@ -18,10 +17,6 @@ plan_of q = record { broker = 0; start = q.start; goal = q.goal; limit = q.limit
 -- Outcome 5: memory is short.
 abbrev pub memory_short : Answer
 memory_short = record { steps = 0; cost = 0; line = 0; delay = 0; outcome = 5; number = 0 }
-
-abbrev pub or_short : Result Answer AllocError → Answer
-or_short (Ok a) = a
-or_short (Err e) = memory_short
 
 -- Outcome 4: a refusal, by its number, with the line at fault.
 abbrev pub refusal_record : Refusal → Answer

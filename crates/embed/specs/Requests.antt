@@ -1,31 +1,20 @@
 -- What a request over the network of a sheet is answered. Assumes nothing.
-use Rattle.std.specs.Prelude.{◌≡◌, ℕ, List, length, IfOk, Ok, Err, vec_items, Result}
+use Rattle.std.specs.Prelude.{◌≡◌, ℕ, List, length, IfOk, Ok, Err, Result}
 use Rattle.network.specs.declared.legs.Leg.{Leg}
 use Rattle.network.specs.declared.legs.Network.{Network}
 use Rattle.network.specs.declared.plans.Plan.{Plan}
 use Rattle.network.specs.declared.refusals.Refusal.{Refusal}
 use Rattle.network.specs.Tariffs.{total_fee}
-use Rattle.queue.specs.Bag.{bagged}
 use Rattle.sheet.specs.Text.{lines}
 use Rattle.sheet.specs.Sheets.{Load, loaded_from}
 use Rattle.sheet.specs.Calls.{fronted}
 use Rattle.search.specs.declared.record.Verdict.{Verdict}
-use Rattle.search.specs.Calls.{worksheet}
 use Rattle.planner.specs.Tallies.{allowing}
-use Rattle.planner.specs.Serves.{Ground, ground, Desk, desk, Serves}
+use Rattle.planner.specs.Serves.{Ground, ground, Desk, Serves}
 use Rattle.planner.specs.Fulfils.{Fulfils}
 use Rattle.embed.specs.declared.serving.Answer.{Answer}
-use Rattle.embed.specs.declared.serving.Desk as own
 use Rattle.embed.specs.declared.serving.Request.{Request}
 use Rattle.embed.specs.Answers.{plan_of, memory_short, refusal_record, answer_record}
-
--- What stands on a desk, with a tally of so many steps beside it.
-abbrev pub at_desk : own.Desk → ℕ → Desk
-at_desk d steps = desk d.costs d.delays (worksheet d.search (vec_items d.labels) d.least (bagged (vec_items d.queue.items))) (allowing steps)
-
--- A desk has tables for 1,024 sites, n label records, and a queue for n entries.
-abbrev pub Sized : ℕ → own.Desk → Type 0
-Sized n d = (length d.costs ≡ 1024) × (length d.delays ≡ 1024) × (length d.least ≡ 1024) × (length (vec_items d.labels) ≡ n) × (d.queue.most ≡ n)
 
 -- A plan is served at the desk d with this result, whose verdict means over walks what a served plan is promised.
 pub record Served (g : Ground) (p : Plan) (d : Desk) (r : Result Verdict Refusal) : Type 0 where

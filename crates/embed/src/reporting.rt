@@ -1,6 +1,6 @@
 // A whole sheet, answered by text.
 ghost use Rattle.std.specs.Prelude.{◌≡◌};
-ghost use Rattle.embed.specs.Texts.{text_put, put_record, written, Answered};
+ghost use Rattle.embed.specs.Texts.{text_put, put_record, Answered};
 
 use report::answers::plan_sheet;
 use std::alloc::Global;
@@ -23,15 +23,8 @@ fn put_text(text: &[u8], output: &mut [u8]) -> Written
     if length > output.len() {
         return Written { length, code: 1 };
     }
-    output[0..length].copy_from_slice(text);
+    output[..length].copy_from_slice(text);
     Written { length, code: 0 }
-}
-
-// That memory is short.
-fn memory_short() -> Written
-    ensures { result ≡ written 0 2 }
-{
-    Written { length: 0, code: 2 }
 }
 
 // Answers the plans of the sheet that the first 16,384 bytes are, by the text that the batch program writes, and puts it
@@ -41,7 +34,7 @@ pub extern "C" fn deqibur_plan_sheet(heap: Global, sheet: &[u8], output: &mut [u
     ensures { Answered sheet.now output.old output.new result }
 {
     let Ok(report) = plan_sheet(heap, sheet) else {
-        return memory_short();
+        return Written { length: 0, code: 2 };
     };
     put_text(&report.text, output)
 }

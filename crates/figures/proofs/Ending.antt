@@ -1,28 +1,24 @@
 -- A search that has ended stays as it is, so that a case is settled by a run of as many steps as it makes. Assumes nothing.
 use Rattle.std.proofs.Common.{◌≡◌, ℕ, zero, suc, ◌+◌, ◌≤◌, Bool, true, false, cond, List, ◌++◌, length, drop, Some, Ok, Result, sym, refl, ap, ◌∙◌, subst, arith}
-use Rattle.std.proofs.lemmas.Bool.{cond-true, cond-false, le-leb}
+use Rattle.std.proofs.lemmas.Bool.{cond-true, le-leb}
 use Rattle.network.specs.declared.refusals.Refusal.{Refusal}
 use Rattle.worksheet.specs.declared.records.Label.{Label}
 use Rattle.worksheet.specs.Problem.{Setting, Problem}
 use Rattle.worksheet.specs.Steps.{State, is_open, step}
 use Rattle.search.specs.Calls.{Worksheet, Outcome, Run, ran, run, run_outcome, opening, problem_of, chain_laid, traced}
+use Rattle.search.proofs.Runs.{run_closed}
 use Rattle.figures.specs.Figures.{ResultOfSearch, refused_at_leg, ends_after, SearchCase, searches, Ended, ComesTo, setting_of, ComesOut}
 use Rattle.figures.proofs.Rows.{Rows, rows}
 
 -- a run of more steps than the search makes comes to the same
 module _ (p : Problem) where
-  shut_stays : (k made : ℕ) (s : State) → is_open s.phase ≡ false → run p k made s ≡ ran made s
-  unfolding run
-  shut_stays zero made s shut = refl
-  shut_stays (suc k) made s shut = cond-false _ _ _ shut
-
   by_phase : (more fewer here : Run) (going : Bool) → (is_open fewer.after.phase ≡ false → more ≡ fewer) → is_open (cond going fewer here).after.phase ≡ false → cond going more here ≡ cond going fewer here
   by_phase more fewer here true ih shut = ih shut
   by_phase more fewer here false ih shut = refl
 
   run_on : (n k made : ℕ) (s : State) → n ≤ k → is_open (run p n made s).after.phase ≡ false → run p k made s ≡ run p n made s
   unfolding run
-  run_on zero k made s le shut = shut_stays k made s shut
+  run_on zero k made s le shut = run_closed p k made s shut
   run_on (suc n) zero made s le shut = absurd (omega arith)
   run_on (suc n) (suc k) made s le shut =
       by_phase (run p k (made + 1) (step p s)) (run p n (made + 1) (step p s)) (ran made s) (is_open s.phase) (run_on n k (made + 1) (step p s) (omega arith)) shut

@@ -3,12 +3,12 @@ use Rattle.std.proofs.Common.{◌≡◌, ℕ, zero, suc, ◌<◌, ◌≤◌, tru
 use Rattle.std.proofs.lemmas.List.{ext_get_or, get_or-take, get_or_append_left, length-take-le, take-append-drop, drop_at}
 use Rattle.std.proofs.lemmas.Bool.{and_from, le-leb}
 use Rattle.network.specs.declared.refusals.Refusal.TheVariants as why
-use Rattle.network.specs.Checks.{unless, first_failing, network_refusal}
+use Rattle.network.specs.Checks.{answer_by, unless, first_failing, network_refusal}
 use Rattle.network.specs.Legs.{leg_in_range, leg_delay}
 use Rattle.network.specs.Tariffs.{Terms, Lawful, total_fee, worst_grade}
 use Rattle.network.specs.Walks.{Graph, graph, no_leg}
 use Rattle.reach.specs.Passes.{Tables, passed, changes}
-use Rattle.reach.specs.Reaches.{largest_cost, largest_delay, Nearest, reached, cut_off, Written, reach_refusal, answer_by}
+use Rattle.reach.specs.Reaches.{largest_cost, largest_delay, Nearest, reached, cut_off, Written, reach_refusal}
 use Rattle.reach.proofs.Settling.{turn_starts, turn_keeps, turn_ends}
 use Rattle.figures.specs.Figures.{network_a, legs_a, fees_to_3, grades_to_3, delays_to_3, reaches, ComesOut}
 

@@ -9,7 +9,7 @@ use Rattle.network.specs.declared.refusals.Place.{Place}
 use Rattle.network.specs.declared.refusals.Place.TheVariants as place
 use Rattle.network.specs.declared.refusals.Refusal.{Refusal}
 use Rattle.network.specs.declared.refusals.Stop.{Stop}
-use Rattle.network.specs.Checks.{legs_of}
+use Rattle.network.specs.Checks.{answer_by, legs_of}
 use Rattle.network.specs.Estimates.{blank_at, tables_at}
 use Rattle.network.specs.Legs.{leg_delay}
 use Rattle.network.specs.Refusals.{number_of, place_of, stop_number_of}
@@ -21,7 +21,7 @@ use Rattle.search.specs.declared.record.Standing.{Standing}
 use Rattle.search.specs.declared.record.Standing.TheVariants as standing
 use Rattle.search.specs.Calls.{Worksheet, Outcome, setting, opening, advancing, tracing, traced, Traced}
 use Rattle.promise.specs.Conduct.{search_of, verdict_on}
-use Rattle.reach.specs.Reaches.{reach_refusal, answer_by, Written}
+use Rattle.reach.specs.Reaches.{reach_refusal, Written}
 
 -- A leg, by its tail, head, fee, grade, stated delay and medium.
 abbrev pub leg : ℕ → ℕ → ℕ → ℕ → ℕ → ℕ → Leg

@@ -22,7 +22,7 @@ pub fn network_a() -> Network
 }
 
 // A leg with the medium 0.
-fn leg(tail: u16, head: u16, fee: u32, grade: u8, stated: u32) -> Leg
+pub fn leg(tail: u16, head: u16, fee: u32, grade: u8, stated: u32) -> Leg
     ensures { result ≡ leg_of tail head fee grade stated 0 }
 {
     Leg {

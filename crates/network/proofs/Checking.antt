@@ -1,39 +1,37 @@
 -- The ways through the tests of a network, and what passing them tells. Assumes nothing.
-use Rattle.std.proofs.Common.{◌≡◌, ℕ, ◌-◌, ◌<◌, ◌≤◌, Bool, true, false, List, length, get_or, take, Some, None, Option, refl, ap, ◌∙◌, arith}
-use native.Mathlib.Nat.{sub-zero}
+use Rattle.std.proofs.Common.{◌≡◌, ℕ, ◌<◌, ◌≤◌, Bool, true, false, List, length, get_or, Some, None, Ok, Err, Option, refl, ap, ◌∙◌, arith}
 use Rattle.std.proofs.lemmas.Bool.Decides.{nat_tests}
 use Rattle.network.specs.declared.legs.Leg.{Leg}
 use Rattle.network.specs.declared.legs.Network.{Network}
 use Rattle.network.specs.declared.refusals.Refusal.{Refusal}
 use Rattle.network.specs.declared.refusals.Refusal.TheVariants as why
 use Rattle.network.specs.Legs.{leg_in_range}
-use Rattle.network.specs.Checks.{first_failing, legs_of, sizes_fit, network_refusal, unless, unless_leg}
+use Rattle.network.specs.Checks.{answer_by, first_failing, legs_of, sizes_fit, network_refusal, unless, unless_leg}
 use Rattle.network.proofs.Failing.{all_pass}
 
--- the ways of the code, with the front of the table as a range of the slice gives it
+-- the ways of the code
 module _ (net : Network) (table : List Leg) where
   pub refused_by_size : false ≡ sizes_fit net (length table) → Some why.Size ≡ network_refusal net table None
   unfolding network_refusal
   refused_by_size s = ap (λ b. unless b why.Size (unless_leg why.LegRange (first_failing (leg_in_range net.sites) 0 (legs_of net table)) None)) s
 
-  pub refused_by_legs : (o : Option ℕ) → true ≡ sizes_fit net (length table) → o ≡ first_failing (leg_in_range net.sites) 0 (take (net.legs - 0) table) → unless_leg why.LegRange o None ≡ network_refusal net table None
+  pub refused_by_legs : (o : Option ℕ) → true ≡ sizes_fit net (length table) → o ≡ first_failing (leg_in_range net.sites) 0 (legs_of net table) → unless_leg why.LegRange o None ≡ network_refusal net table None
   unfolding network_refusal
   refused_by_legs o s l =
-      ap (λ f. unless_leg why.LegRange f None) (l ∙ ap (λ k. first_failing (leg_in_range net.sites) 0 (take k table)) (sub-zero net.legs))
-      ∙ ap (λ b. unless b why.Size (unless_leg why.LegRange (first_failing (leg_in_range net.sites) 0 (legs_of net table)) None)) s
+      ap (λ f. unless_leg why.LegRange f None) l ∙ ap (λ b. unless b why.Size (unless_leg why.LegRange (first_failing (leg_in_range net.sites) 0 (legs_of net table)) None)) s
 
 -- the tests of the network come first, and what follows counts only where they pass
 by_tests : (s : Bool) (f : Option ℕ) (rest : Option Refusal) (w : Refusal)
     → Some w ≡ unless s why.Size (unless_leg why.LegRange f None) → Some w ≡ unless s why.Size (unless_leg why.LegRange f rest)
 by_tests true (Some j) rest w e = e
-by_tests true None rest w e = let z : ◌≡◌ {A = ℕ} 0 1 = cc in absurd (omega arith)
+by_tests true None rest w e = cc
 by_tests false f rest w e = e
 
 past_tests : (s : Bool) (f : Option ℕ) (rest : Option Refusal)
     → None ≡ unless s why.Size (unless_leg why.LegRange f None) → rest ≡ unless s why.Size (unless_leg why.LegRange f rest)
-past_tests true (Some j) rest e = let z : ◌≡◌ {A = ℕ} 0 1 = cc in absurd (omega arith)
+past_tests true (Some j) rest e = cc
 past_tests true None rest e = refl
-past_tests false f rest e = let z : ◌≡◌ {A = ℕ} 0 1 = cc in absurd (omega arith)
+past_tests false f rest e = cc
 
 module _ (net : Network) (table : List Leg) (rest : Option Refusal) where
   pub refused_first : (w : Refusal) → Some w ≡ network_refusal net table None → Some w ≡ network_refusal net table rest
@@ -44,6 +42,15 @@ module _ (net : Network) (table : List Leg) (rest : Option Refusal) where
   unfolding network_refusal
   refused_later e = past_tests (sizes_fit net (length table)) (first_failing (leg_in_range net.sites) 0 (legs_of net table)) rest e
 
+-- what an answer tells of the refusal
+pub not_refused : (o : Option Refusal) → Ok tt ≡ answer_by o → None ≡ o
+not_refused None e = refl
+not_refused (Some w) e = cc
+
+pub refused_by : (o : Option Refusal) (w : Refusal) → Err w ≡ answer_by o → Some w ≡ o
+refused_by None w e = cc
+refused_by (Some v) w e = let z : w ≡ v = cc in ap Some z
+
 -- what a network that passes has
 pub record Sound (net : Network) (table : List Leg) : Type 0 where
   pub some_sites : 1 ≤ net.sites
@@ -53,9 +60,9 @@ pub record Sound (net : Network) (table : List Leg) : Type 0 where
   pub in_range : (j : ℕ) (d : Leg) → j < length (legs_of net table) → leg_in_range net.sites (get_or (legs_of net table) j d) ≡ true
 
 passed : (s : Bool) (f : Option ℕ) (rest : Option Refusal) → None ≡ unless s why.Size (unless_leg why.LegRange f rest) → (s ≡ true) × (None ≡ f) × (None ≡ rest)
-passed true (Some j) rest e = let z : ◌≡◌ {A = ℕ} 0 1 = cc in absurd (omega arith)
+passed true (Some j) rest e = cc
 passed true None rest e = (refl, refl, e)
-passed false f rest e = let z : ◌≡◌ {A = ℕ} 0 1 = cc in absurd (omega arith)
+passed false f rest e = cc
 
 pub accepted : (net : Network) (table : List Leg) (rest : Option Refusal) → None ≡ network_refusal net table rest → Sound net table × (None ≡ rest)
 unfolding network_refusal

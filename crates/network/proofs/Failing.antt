@@ -1,23 +1,22 @@
 -- The search for the first leg that does not pass a test. Assumes nothing.
-use Rattle.std.proofs.Common.{◌≡◌, ℕ, zero, suc, ◌+◌, ◌<◌, ◌≤◌, Bool, true, false, cond, List, [], ◌∷◌, length, get_or, drop, Some, None, Option, refl, ◌∙◌, arith}
-use Rattle.std.proofs.lemmas.List.{at_drop_more, at_drop_all}
-use Rattle.std.proofs.lemmas.Bool.{cond-true, cond-false}
+use Rattle.std.proofs.Common.{◌≡◌, ℕ, zero, suc, ◌+◌, ◌<◌, Bool, true, false, cond, not, List, [], ◌∷◌, length, get_or, Some, None, Option, refl, ◌∙◌, arith}
+use Rattle.std.specs.List.{position, position_from}
+use Rattle.std.proofs.lemmas.Iterator.Adapters.{position_from-zero}
 use Rattle.network.specs.declared.legs.Leg.{Leg}
 use Rattle.network.specs.Checks.{first_failing}
 
--- the steps of a loop over the legs, at leg i
-module _ (passes : Leg → Bool) (legs : List Leg) (i : ℕ) where
-  pub fail_later : (d : Leg) → i < length legs → passes (get_or legs i d) ≡ true → first_failing passes i (drop i legs) ≡ first_failing passes (i + 1) (drop (i + 1) legs)
-  unfolding first_failing
-  fail_later d lt h = at_drop_more (first_failing passes i) legs i d lt ∙ cond-true _ _ _ h
+-- what `position` finds is the first leg that does not pass
+found : (b : Bool) (i : ℕ) (o o' : Option ℕ) → o ≡ o' → cond (not b) (Some i) o ≡ cond b o' (Some i)
+found true i o o' e = e
+found false i o o' e = refl
 
-  pub fail_here : (d : Leg) → i < length legs → passes (get_or legs i d) ≡ false → first_failing passes i (drop i legs) ≡ Some i
-  unfolding first_failing
-  fail_here d lt h = at_drop_more (first_failing passes i) legs i d lt ∙ cond-false _ _ _ h
+found_from : (passes : Leg → Bool) (i : ℕ) (legs : List Leg) → position_from (λ leg. not (passes leg)) i legs ≡ first_failing passes i legs
+unfolding first_failing
+found_from passes i [] = refl
+found_from passes i (leg ∷ legs) = found (passes leg) i _ _ (found_from passes (i + 1) legs)
 
-  pub fail_none : length legs ≤ i → first_failing passes i (drop i legs) ≡ None
-  unfolding first_failing
-  fail_none le = at_drop_all (first_failing passes i) legs i le
+pub first_by_position : (passes : Leg → Bool) (legs : List Leg) (r : Option ℕ) → r ≡ position (λ leg. not (passes leg)) legs → r ≡ first_failing passes 0 legs
+first_by_position passes legs r e = e ∙ position_from-zero (λ leg. not (passes leg)) legs ∙ found_from passes 0 legs
 
 split : (b : Bool) (i : ℕ) (o : Option ℕ) → None ≡ cond b o (Some i) → (b ≡ true) × (None ≡ o)
 split b i o e = grind arith
@@ -28,12 +27,6 @@ unfolding first_failing
 all_pass passes i [] e j d h = absurd (omega arith)
 all_pass passes i (leg ∷ legs) e zero d h = (split (passes leg) i (first_failing passes (i + 1) legs) e).0
 all_pass passes i (leg ∷ legs) e (suc j) d h = all_pass passes (i + 1) legs (split (passes leg) i (first_failing passes (i + 1) legs) e).1 j d (omega arith)
-
--- where each passes, none fails
-pub none_fails : (passes : Leg → Bool) (i : ℕ) (legs : List Leg) (d : Leg) → ((j : ℕ) → j < length legs → passes (get_or legs j d) ≡ true) → first_failing passes i legs ≡ None
-unfolding first_failing
-none_fails passes i [] d h = refl
-none_fails passes i (leg ∷ legs) d h = cond-true _ _ _ (h 0 (omega arith)) ∙ none_fails passes (i + 1) legs d (λ j l. h (suc j) (omega arith))
 
 -- the leg that fails, counted from i, and what is known of it
 module _ (passes : Leg → Bool) (d : Leg) where
@@ -56,5 +49,5 @@ module _ (passes : Leg → Bool) (d : Leg) where
 
   pub first_fails : (i : ℕ) (legs : List Leg) (j : ℕ) → first_failing passes i legs ≡ Some j → Fails i legs j
   unfolding first_failing
-  first_fails i [] j e = let z : ◌≡◌ {A = ℕ} 0 1 = cc in absurd (omega arith)
+  first_fails i [] j e = cc
   first_fails i (leg ∷ legs) j e = fails_by i leg legs j (passes leg) refl e (λ f. first_fails (i + 1) legs j f)

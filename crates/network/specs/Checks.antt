@@ -1,10 +1,15 @@
 -- When a network and its leg table are refused. Assumes nothing.
-use Rattle.std.specs.Prelude.{ℕ, ◌+◌, Bool, cond, ◌&&◌, List, [], ◌∷◌, length, take, Some, None, Option, nat_le}
+use Rattle.std.specs.Prelude.{ℕ, ◌+◌, Bool, cond, ◌&&◌, List, [], ◌∷◌, length, take, Some, None, Ok, Err, Option, Result, nat_le}
 use Rattle.network.specs.declared.legs.Leg.{Leg}
 use Rattle.network.specs.declared.legs.Network.{Network}
 use Rattle.network.specs.declared.refusals.Refusal.{Refusal}
 use Rattle.network.specs.declared.refusals.Refusal.TheVariants as why
 use Rattle.network.specs.Legs.{leg_in_range}
+
+-- What a call answers that is refused or is not.
+abbrev pub answer_by : Option Refusal → Result Unit Refusal
+answer_by None = Ok tt
+answer_by (Some why) = Err why
 
 -- The legs that a network has: the front of its table.
 abbrev pub legs_of : Network → List Leg → List Leg

@@ -49,6 +49,15 @@ place_of why.NotFound = None
 place_of why.Outside = None
 place_of why.BufferShort = None
 
+-- The line that is at fault, where one is.
+abbrev pub line_in : Option Place → Option ℕ
+line_in None = None
+line_in (Some (place.Line line)) = Some line
+line_in (Some (place.Leg leg)) = None
+
+abbrev pub line_of : Refusal → Option ℕ
+line_of r = line_in (place_of r)
+
 -- The number of a stop.
 abbrev pub stop_number_of : Stop → ℕ
 stop_number_of stop.Outside = 15

@@ -1,7 +1,7 @@
 // The tests of a network and its leg table that come before any work on them.
 ghost use Rattle.std.specs.Prelude.{◌≡◌, ◌^◌, ◌<◌, length, None};
 ghost use Rattle.network.specs.Legs.{leg_in_range};
-ghost use Rattle.network.specs.Checks.{first_failing, network_refusal, sizes_fit};
+ghost use Rattle.network.specs.Checks.{answer_by, first_failing, network_refusal, sizes_fit};
 
 use crate::legs::*;
 use crate::refusals::Refusal;
@@ -11,19 +11,16 @@ fn first_out_of_range(legs: &[Leg], sites: u16) -> Option<u16>
     requires { length legs.now < 2 ^ 16 }
     ensures { result ≡ first_failing (leg_in_range sites) 0 legs.now }
 {
-    for (i, leg) in legs.iter().enumerate() {
-        if !leg.is_in_range(sites) {
-            return Some(i as u16);
-        }
-    }
-    None
+    legs.iter()
+        .position(|leg| !leg.is_in_range(sites))
+        .map(|i| i as u16)
 }
 
 impl Network {
     fn sizes_fit(&self, table: usize) -> bool
         ensures { result ≡ sizes_fit self.now table }
     {
-        1 <= self.sites && self.sites <= 1024 && self.legs <= 4096 && self.legs as usize <= table
+        (1..=1024).contains(&self.sites) && self.legs <= 4096 && self.legs as usize <= table
     }
 
     // Why the network with its leg table is refused, if it is: its sizes, or the first of its legs with a field outside its range.
@@ -33,9 +30,13 @@ impl Network {
         if !self.sizes_fit(table.len()) {
             return Some(Refusal::Size);
         }
-        match first_out_of_range(&table[0..self.legs as usize], self.sites) {
-            Some(leg) => Some(Refusal::LegRange(leg)),
-            None => None,
-        }
+        first_out_of_range(&table[..self.legs as usize], self.sites).map(Refusal::LegRange)
+    }
+
+    // The same as an error.
+    pub fn check(&self, table: &[Leg]) -> Result<(), Refusal>
+        ensures { result ≡ answer_by (network_refusal self.now table.now None) }
+    {
+        self.refusal(table).map_or(Ok(()), Err)
     }
 }

@@ -4,7 +4,7 @@ ghost use Rattle.network.specs.declared.estimates.Bound.{Bound};
 ghost use Rattle.network.specs.Estimates.{blank_at, tables_at};
 
 // What is left to pay and to wait from a site to the goal, at the least.
-#[derive(Clone, Copy, PartialEq, Eq, Debug)]
+#[derive(Clone, Copy, PartialEq, Eq, Default, Debug)]
 pub struct Bound {
     pub cost: u64,
     pub delay: u32,
@@ -27,7 +27,7 @@ impl Estimate for Blank {
     ghost at = { λ _. blank_at };
 
     fn at(&self, _site: u16) -> Option<Bound> {
-        Some(Bound { cost: 0, delay: 0 })
+        Some(Bound::default())
     }
 }
 
@@ -43,13 +43,8 @@ impl<'a> Estimate for Reached<'a> {
     ghost at = { λ e. tables_at e.costs.now e.delays.now };
 
     fn at(&self, site: u16) -> Option<Bound> {
-        let i = site as usize;
-        if i >= self.costs.len() || i >= self.delays.len() || self.delays[i] == u32::MAX {
-            return None;
-        }
-        Some(Bound {
-            cost: self.costs[i],
-            delay: self.delays[i],
-        })
+        let cost = *self.costs.get(site as usize)?;
+        let delay = *self.delays.get(site as usize)?;
+        (delay != u32::MAX).then_some(Bound { cost, delay })
     }
 }

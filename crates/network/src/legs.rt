@@ -7,7 +7,7 @@ const HANDOVERS: [u32; 8] = [0, 5, 12, 20, 35, 60, 90, 150];
 
 // One circuit that a carrier offers, from the site `tail` to the site `head`. A higher grade is worse. `stated` is the
 // delay that the carrier states, in microseconds.
-#[derive(Clone, Copy, PartialEq, Eq, Debug)]
+#[derive(Clone, Copy, PartialEq, Eq, Default, Debug)]
 pub struct Leg {
     pub tail: u16,
     pub head: u16,
@@ -18,7 +18,7 @@ pub struct Leg {
 }
 
 // How many sites and legs there are; both are numbered from 0. The legs stand in a table beside it.
-#[derive(Clone, Copy, PartialEq, Eq, Debug)]
+#[derive(Clone, Copy, PartialEq, Eq, Default, Debug)]
 pub struct Network {
     pub sites: u16,
     pub legs: u16,
@@ -29,10 +29,7 @@ fn handover(medium: u8) -> u32
     ensures value { result ≡ handover_of medium }
     ensures bound { result ≤ 150 }
 {
-    if medium > 7 {
-        return 0;
-    }
-    HANDOVERS[medium as usize]
+    HANDOVERS.get(medium as usize).copied().unwrap_or(0)
 }
 
 impl Leg {

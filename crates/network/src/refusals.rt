@@ -1,6 +1,6 @@
 // Why a call is refused, and why a search is stopped.
 ghost use Rattle.std.specs.Prelude.{◌≡◌};
-ghost use Rattle.network.specs.Refusals.{number_of, place_of, stop_number_of};
+ghost use Rattle.network.specs.Refusals.{line_of, number_of, place_of, stop_number_of};
 
 // What is at fault: a line of the sheet, counted from 1, or a leg by its number.
 #[derive(Clone, Copy, PartialEq, Eq, Debug)]
@@ -75,12 +75,10 @@ impl Refusal {
             Refusal::FieldRange(_) => 6,
             Refusal::TableFull(_) => 7,
             Refusal::Size => 8,
-            Refusal::LegRange(_) => 9,
-            Refusal::WrittenLegRange => 9,
+            Refusal::LegRange(_) | Refusal::WrittenLegRange => 9,
             Refusal::Site => 10,
             Refusal::Room => 11,
-            Refusal::GoalEstimate => 12,
-            Refusal::LegEstimate(_) => 12,
+            Refusal::GoalEstimate | Refusal::LegEstimate(_) => 12,
             Refusal::NotOpen => 13,
             Refusal::NotFound => 14,
             Refusal::Outside => 15,
@@ -102,6 +100,16 @@ impl Refusal {
             | Refusal::TableFull(line) => Some(Place::Line(*line)),
             Refusal::LegRange(leg) | Refusal::LegEstimate(leg) => Some(Place::Leg(*leg)),
             _ => None,
+        }
+    }
+
+    // The line at fault, where one is.
+    pub fn line(&self) -> Option<u64>
+        ensures { result ≡ line_of self.now }
+    {
+        match self.place()? {
+            Place::Line(line) => Some(line),
+            Place::Leg(_) => None,
         }
     }
 }

@@ -1,31 +1,24 @@
 -- The ways that serving a plan ends, by what the calls of the code ensure. Assumes nothing.
-use Rattle.std.proofs.Common.{◌≡◌, ℕ, ◌-◌, ◌^◌, ◌<◌, ◌≤◌, List, length, Some, None, Ok, Err, Option, Result, sym, refl, ap, ◌∙◌, subst, arith}
+use Rattle.std.proofs.Common.{◌≡◌, ℕ, ◌-◌, ◌^◌, ◌<◌, ◌≤◌, List, length, Some, None, Ok, Err, Option, Result, sym, ap, ◌∙◌, subst, arith}
 use Rattle.network.specs.declared.plans.Plan.{Plan}
 use Rattle.network.specs.declared.refusals.Refusal.{Refusal}
-use Rattle.network.specs.Checks.{legs_of}
+use Rattle.network.specs.Checks.{answer_by, legs_of}
+use Rattle.network.proofs.Checking.{not_refused, refused_by}
 use Rattle.network.specs.Estimates.{tables_at}
 use Rattle.network.specs.Tariffs.{Lawful}
 use Rattle.network.specs.Walks.{graph}
-use Rattle.reach.specs.Reaches.{reach_refusal, answer_by, Written}
+use Rattle.reach.specs.Reaches.{reach_refusal, Written}
 use Rattle.worksheet.specs.declared.records.Query.{Query}
-use Rattle.worksheet.specs.Problem.{Setting, problem}
+use Rattle.worksheet.specs.Problem.{Setting, problem, asked}
 use Rattle.search.specs.declared.record.Verdict.{Verdict}
 use Rattle.search.specs.Calls.{Worksheet, setting, Outcome, outcome, CostsFit, open_refusal, open_decided, opening, advancing}
 use Rattle.promise.specs.Conduct.{verdict_on}
+use Rattle.promise.proofs.Promised.{opened_on}
 use Rattle.planner.specs.declared.tally.Tally.{Tally}
 use Rattle.planner.specs.Tallies.{left_for, reduced}
-use Rattle.planner.specs.Serves.{asked, Ground, Desk, desk, searched, Reached, Serves, reach_refused, open_refused, served}
+use Rattle.planner.specs.Serves.{Ground, Desk, desk, searched, Reached, Serves, reach_refused, open_refused, served}
 use Rattle.planner.specs.Fulfils.{Fulfils}
-use Rattle.planner.proofs.Fulfilling.{opened_on, run_on, advanced_on, open_is_accepted, advance_is_accepted, fulfilled}
-
--- The answer of reach tells whether it was refused.
-refused_by : (o : Option Refusal) (why : Refusal) → Err why ≡ answer_by o → o ≡ Some why
-refused_by None why e = cc
-refused_by (Some x) why e = cc
-
-accepted_by : (o : Option Refusal) → Ok tt ≡ answer_by o → o ≡ None
-accepted_by None e = refl
-accepted_by (Some x) e = cc
+use Rattle.planner.proofs.Fulfilling.{run_on, advanced_on, open_is_accepted, advance_is_accepted, fulfilled}
 
 -- A refused open changes nothing.
 refusal_keeps : (s : Setting) (q : Query) (w u : Worksheet) (why : Refusal) (o : Option Refusal) → outcome (Err why) u ≡ open_decided s q o w → u ≡ w
@@ -40,7 +33,7 @@ module _ (g : Ground) (p : Plan) (d : Desk) where
   ends_at_reach r why costs delays e f x y =
       let same : desk costs delays d.sheet d.tally ≡ d = λ i. desk (x i) (y i) d.sheet d.tally in
       subst (λ (a : Result Verdict Refusal). Serves g p d a (desk costs delays d.sheet d.tally)) (sym e)
-      (subst (λ (z : Desk). Serves g p d (Err why) z) (sym same) (reach_refused why (refused_by _ why f)))
+      (subst (λ (z : Desk). Serves g p d (Err why) z) (sym same) (reach_refused why (sym (refused_by _ why f))))
 
   -- Reach has written its tables.
   module _ (costs delays : List ℕ) (accepted : Ok tt ≡ answer_by (reach_refusal g.net g.table p.goal (length d.costs) (length d.delays)))
@@ -50,7 +43,7 @@ module _ (g : Ground) (p : Plan) (d : Desk) where
     place = searched g costs delays d.sheet
 
     reached : Reached g p d costs delays
-    reached = record { accepted = accepted_by _ accepted; tables = tables; costs_kept = costs_kept; delays_kept = delays_kept }
+    reached = record { accepted = sym (not_refused _ accepted); tables = tables; costs_kept = costs_kept; delays_kept = delays_kept }
 
     -- Open is refused.
     pub ends_at_open : (q : Query) → q ≡ asked p → (r : Result Verdict Refusal) (why : Refusal) (u : Worksheet) → r ≡ Err why → outcome (Err why) u ≡ opening place q d.sheet → Serves g p d r (desk costs delays u d.tally)
@@ -77,12 +70,6 @@ module _ (g : Ground) (p : Plan) (d : Desk) where
       advances k r v e =
           let accepted = open_is_accepted place (asked p) d.sheet u (sym opens) in
           e ∙ ap (λ (s : Setting). advancing s k u) same_place ∙ ap (λ (w : Worksheet). advancing place k w) (sym accepted.1)
-
-      -- Advance is never refused.
-      pub never_at_advance : (k : ℕ) (why : Refusal) (v : Worksheet) → outcome (Err why) v ≡ advancing place_then k u → ⊥
-      never_at_advance k why v e =
-          let ran = (advance_is_accepted place (asked p) d.sheet k v (Err why) (advances k (Err why) v e)).0 in
-          let z : ◌≡◌ {A = ℕ} 0 1 = cc in omega arith
 
       module _ (k : ℕ) (all : k ≡ left_for d.tally p.broker) (made : ℕ) (v : Worksheet) (tally : Tally) (x : Verdict)
           (steps_with : outcome (Ok made) v ≡ advancing place_then k u) (taken : tally ≡ reduced d.tally p.broker made) (told : x ≡ verdict_on v) where

@@ -10,27 +10,25 @@ use Rattle.worksheet.specs.declared.records.Mark.{Mark}
 use Rattle.worksheet.specs.declared.records.Phase.{Phase}
 use Rattle.worksheet.specs.declared.records.Phase.TheVariants as phase
 use Rattle.worksheet.specs.declared.records.Query.{Query}
-use Rattle.worksheet.specs.Problem.{Setting, problem}
-use Rattle.worksheet.specs.Steps.{State, is_open, opened}
-use Rattle.worksheet.specs.Traces.{trace}
+use Rattle.worksheet.specs.Problem.{Setting, problem, asked}
+use Rattle.worksheet.specs.Steps.{is_open, opened}
 use Rattle.worksheet.specs.Series.{begun, Known}
 use Rattle.search.specs.declared.record.Standing.TheVariants.{Open, Found, Stopped}
 use Rattle.search.specs.Record.{standing_of}
 use Rattle.search.specs.Calls.{Worksheet, Outcome, outcome, CostsFit, open_refusal, open_decided, opening, Run, run, run_outcome, advancing, chain_laid, traced_in, tracing}
 use Rattle.promise.specs.Promise.{Tells}
 use Rattle.promise.specs.Conduct.{search_of, verdict_on}
-use Rattle.promise.proofs.Telling.{phase_told, not_open_told}
+use Rattle.worksheet.proofs.Ways.{not_open}
+use Rattle.promise.proofs.Telling.{phase_told}
 use Rattle.promise.proofs.Running.{opened_begun, Ran, run_is_series}
+use Rattle.promise.proofs.Promised.{opened_on, found_route}
 use Rattle.promise.proofs.Underway.{Underway, RouteIs, known, tells_verdict, chain_found}
 use Rattle.planner.specs.Tallies.{left_for, reduced}
-use Rattle.planner.specs.Serves.{asked, Ground, Desk, desk, searched}
+use Rattle.planner.specs.Serves.{Ground, Desk, desk, searched}
 use Rattle.planner.specs.Fulfils.{Full, Fulfils}
 use Rattle.planner.proofs.Filling.{FilledIn, stopped_is_filled, trace_short}
 
--- The worksheet after an accepted open, and after an advance from there.
-abbrev pub opened_on : Setting → Query → Worksheet → Worksheet
-opened_on s q w = record { query = q; state = opened (problem s q) w.state }
-
+-- The run right after an accepted open, and the worksheet after it.
 abbrev pub run_on : Setting → Query → Worksheet → ℕ → Run
 run_on s q w k = run (problem s q) k 0 (opened (problem s q) w.state)
 
@@ -41,7 +39,7 @@ advanced_on s q w k = record { query = q; state = (run_on s q w k).after }
 module _ (s : Setting) (q : Query) (w u : Worksheet) where
   open_accepted_by : (o : Option Refusal) → open_refusal s q ≡ o → open_decided s q o w ≡ outcome (Ok tt) u → (open_refusal s q ≡ None) × (opened_on s q w ≡ u)
   open_accepted_by None e d = (e, ap (λ (x : Outcome (Result Unit Refusal)). x.after) d)
-  open_accepted_by (Some r) e d = let answered = ap (λ (x : Outcome (Result Unit Refusal)). x.answer) d in let z : ◌≡◌ {A = ℕ} 0 1 = cc in absurd (omega arith)
+  open_accepted_by (Some r) e d = let answered = ap (λ (x : Outcome (Result Unit Refusal)). x.answer) d in cc
 
   pub open_is_accepted : opening s q w ≡ outcome (Ok tt) u → (open_refusal s q ≡ None) × (opened_on s q w ≡ u)
   open_is_accepted d = open_accepted_by (open_refusal s q) refl d
@@ -50,7 +48,7 @@ module _ (s : Setting) (q : Query) (w u : Worksheet) where
 module _ (s : Setting) (q : Query) (w : Worksheet) (k : ℕ) where
   advance_by : (b : Bool) → is_open (opened_on s q w).state.phase ≡ b → cond b (run_outcome (opened_on s q w) (run_on s q w k)) (outcome (Err why.NotOpen) (opened_on s q w)) ≡ run_outcome (opened_on s q w) (run_on s q w k)
   advance_by true e = refl
-  advance_by false e = absurd (not_open_told (opened_on s q w).state.phase e (opened_begun (problem s q) w.state).0)
+  advance_by false e = absurd (not_open (opened_on s q w).state.phase e (opened_begun (problem s q) w.state).0)
 
   advance_runs : advancing s k (opened_on s q w) ≡ run_outcome (opened_on s q w) (run_on s q w k)
   advance_runs = advance_by (is_open (opened_on s q w).state.phase) refl
@@ -59,14 +57,6 @@ module _ (s : Setting) (q : Query) (w : Worksheet) (k : ℕ) where
   advance_is_accepted u r d =
       let e = d ∙ advance_runs in
       (ap (λ (x : Outcome (Result ℕ Refusal)). x.answer) e, ap (λ (x : Outcome (Result ℕ Refusal)). x.after) e)
-
--- The walk of what is found, and no leg where nothing is.
-abbrev found_legs : State → Phase → List ℕ
-found_legs t phase.Fresh = []
-found_legs t phase.Open = []
-found_legs t (phase.Found i m) = trace t.labels i
-found_legs t phase.Exhausted = []
-found_legs t (phase.Stopped why) = []
 
 -- The plan p, served with reach's tables costs and delays at the desk d, by k steps at the most, as many as are left.
 module _ (g : Ground) (p : Plan) (d : Desk) (costs delays : List ℕ) (lawful : Lawful g.terms) where
@@ -87,10 +77,10 @@ module _ (g : Ground) (p : Plan) (d : Desk) (costs delays : List ℕ) (lawful : 
     underway = record { tables = d.sheet.state; made = 0 + ran.more; accepted = accepted; fits = fits; labels_counted = refl; series = ran.series; all_made = λ o. omega (arith, ran.all o) }
 
     abbrev legs : List ℕ
-    legs = found_legs end.state end.state.phase
+    legs = found_route end.state end.state.phase
 
     legs_are : RouteIs end legs
-    legs_are i m e = ap (λ (x : Phase). found_legs end.state x) e
+    legs_are i m e = ap (λ (x : Phase). found_route end.state x) e
 
     tells : Tells place (asked p) [] left legs (verdict_on end)
     tells = tells_verdict place lawful end (Some (asked p)) [] left (refl, underway) legs legs_are

@@ -1,3 +1,4 @@
 pub mod Tallies
 pub mod Serves
 pub mod Fulfils
+pub mod Desks

@@ -9,17 +9,12 @@ use Rattle.network.specs.Estimates.{tables_at}
 use Rattle.network.specs.Tariffs.{Terms}
 use Rattle.network.specs.Walks.{graph}
 use Rattle.reach.specs.Reaches.{reach_refusal, Written}
-use Rattle.worksheet.specs.declared.records.Query.{Query}
-use Rattle.worksheet.specs.Problem.{Setting}
+use Rattle.worksheet.specs.Problem.{Setting, asked}
 use Rattle.search.specs.declared.record.Verdict.{Verdict}
 use Rattle.search.specs.Calls.{Worksheet, setting, outcome, opening, advancing}
 use Rattle.promise.specs.Conduct.{verdict_on}
 use Rattle.planner.specs.declared.tally.Tally.{Tally}
 use Rattle.planner.specs.Tallies.{left_for, reduced}
-
--- The question that a plan puts.
-abbrev pub asked : Plan → Query
-asked p = record { start = p.start; goal = p.goal; limit = p.limit }
 
 -- What no plan alters: the network with its leg table, what the tariff means, and the queue's capacity.
 pub record Ground : Type 0 where

@@ -1,7 +1,7 @@
 // One plan, from its question to its verdict.
 ghost use Rattle.std.specs.Prelude.{◌≡◌, IfOk};
 ghost use Rattle.search.specs.Calls.{worksheet};
-ghost use Rattle.planner.specs.Serves.{asked, desk, ground, Serves};
+ghost use Rattle.planner.specs.Serves.{desk, ground, Serves};
 ghost use Rattle.planner.specs.Fulfils.{Fulfils};
 
 use crate::tally::Tally;
@@ -14,17 +14,6 @@ use queue::interface::Queue;
 use reach::tables::reach;
 use search::record::*;
 use worksheet::records::*;
-
-// The question that a plan puts.
-fn question(plan: Plan) -> Query
-    ensures { result ≡ asked plan }
-{
-    Query {
-        start: plan.start,
-        goal: plan.goal,
-        limit: plan.limit,
-    }
-}
 
 // Serves a plan: writes the least costs and delays to its goal, opens the search for it with them as the estimate, makes the
 // steps that the tally has left for its broker, or fewer, takes those made off the tally, and answers the verdict. The first
@@ -49,7 +38,7 @@ pub fn serve<Q: Queue, T: Tariff>(
     reach(network, table, tariff, plan.goal, costs, delays)?;
     let estimate = Reached { costs, delays };
     search.open(
-        question(plan),
+        Query::from(plan),
         network,
         table,
         labels,

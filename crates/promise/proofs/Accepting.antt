@@ -20,11 +20,11 @@ use Rattle.search.specs.Calls.{CostsFit, limit_fits, ends_fit, tables_fit, is_re
 -- A test that is passed, and the rest of the refusal after it.
 passed : (b : Bool) (w : Refusal) (rest : Option Refusal) → unless b w rest ≡ None → (b ≡ true) × (rest ≡ None)
 passed true w rest e = (refl, e)
-passed false w rest e = let z : ◌≡◌ {A = ℕ} 0 1 = cc in absurd (omega arith)
+passed false w rest e = cc
 
 no_leg_fails : (w : ℕ → Refusal) (o : Option ℕ) → unless_leg w o None ≡ None → None ≡ o
 no_leg_fails w None e = refl
-no_leg_fails w (Some j) e = let z : ◌≡◌ {A = ℕ} 0 1 = cc in absurd (omega arith)
+no_leg_fails w (Some j) e = cc
 
 -- The tests of an open, passed.
 pub record Passed (s : Setting) (q : Query) : Type 0 where
@@ -52,7 +52,7 @@ all_passed s q e =
 
 -- The goal has the pair 0 and 0.
 reached : (o : Option Bound) → is_reached o ≡ true → o ≡ Some nothing_left
-reached None e = let z : ◌≡◌ {A = ℕ} 0 1 = cc in absurd (omega arith)
+reached None e = cc
 reached (Some b) e =
     let parts = and_parts (eqb b.cost 0) (eqb b.delay 0) e in
     ap (λ (x : Bound). Some x) (ap₂ (λ c d. record { cost = c; delay = d }) (eqb-true b.cost 0 parts.0) (eqb-true b.delay 0 parts.1))

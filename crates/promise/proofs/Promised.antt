@@ -34,7 +34,7 @@ abbrev event : Call → Answer → Worksheet → Event
 event c x u = record { call = c; answer = x; after = verdict_on u }
 
 -- The worksheet after an accepted open, and after an advance.
-abbrev opened_on : Setting → Query → Worksheet → Worksheet
+abbrev pub opened_on : Setting → Query → Worksheet → Worksheet
 opened_on s q w = record { query = q; state = opened (problem s q) w.state }
 
 abbrev advanced_on : Setting → ℕ → Worksheet → Worksheet
@@ -42,10 +42,10 @@ advanced_on s k w = record { query = w.query; state = (run_of s w k).after }
 
 -- Two phases are not one.
 open_not_fresh : (q : Phase) → q ≡ phase.Fresh → q ≡ phase.Open → ⊥
-open_not_fresh q e f = let z : ◌≡◌ {A = ℕ} 0 1 = cc in omega arith
+open_not_fresh q e f = cc
 
 open_not_found : (q : Phase) (i : ℕ) (m : Mark) → q ≡ phase.Open → q ≡ phase.Found i m → ⊥
-open_not_found q i m e f = let z : ◌≡◌ {A = ℕ} 0 1 = cc in omega arith
+open_not_found q i m e f = cc
 
 -- Searches are numbered upward.
 searches_rise : (c : Call) (b : Bool) (n : ℕ) → n ≤ searches_by c b n
@@ -68,7 +68,7 @@ same_routes s route other (e ∷ before) same kept =
     )
 
 -- The walk of what is found, and no leg where nothing is.
-abbrev found_route : State → Phase → List ℕ
+abbrev pub found_route : State → Phase → List ℕ
 found_route t phase.Fresh = []
 found_route t phase.Open = []
 found_route t (phase.Found i m) = trace t.labels i
@@ -150,7 +150,7 @@ module _ (s : Setting) (lawful : Lawful s.terms) where
   call_answered w o os n v js is c x u (advanced k e) = advance_answered w k o os n e v js
   call_answered w o os n v js is c x u told = promise.told
   call_answered w o os n v js is c x u (none_found k e) = promise.trace_refused k (not_told_found w e)
-  call_answered w o os n v js is c x u (led_outside k i m e f) = let g = chain_found s lawful w o os n v i m e in let z : ◌≡◌ {A = ℕ} 0 1 = cc in absurd (omega arith)
+  call_answered w o os n v js is c x u (led_outside k i m e f) = let g = chain_found s lawful w o os n v i m e in cc
   call_answered w o os n v js is c x u (too_short k i m ks e f h) =
       let g = chain_found s lawful w o os n v i m e in
       let same : js ≡ ks = let j = is i m e in cc in

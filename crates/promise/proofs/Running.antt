@@ -7,7 +7,8 @@ use Rattle.worksheet.specs.Problem.{Problem}
 use Rattle.worksheet.specs.Steps.{State, is_open, step, opened, open_at, open_fit}
 use Rattle.worksheet.specs.Series.{Series, stepped}
 use Rattle.search.specs.Calls.{Run, ran, run}
-use Rattle.promise.proofs.Telling.{open_told, not_open_told}
+use Rattle.worksheet.proofs.Ways.{not_open}
+use Rattle.promise.proofs.Telling.{open_told}
 
 -- Whether or not label 0 is written, the search is open and has made no step.
 module _ (p : Problem) (w : State) where
@@ -44,7 +45,7 @@ module _ (p : Problem) (w : State) (os : List Mark) where
 
   run_by : (n k c : ℕ) (s : State) → Series p w os k s → (b : Bool) → is_open s.phase ≡ b → (s.phase ≡ phase.Open → Ran p w os (suc k) n (c + 1) (run p n (c + 1) (step p s))) → Ran p w os k (suc n) c (cond b (run p n (c + 1) (step p s)) (ran c s))
   run_by n k c s r true e x = one_ran n k c (run p n (c + 1) (step p s)) (x (open_told s.phase e))
-  run_by n k c s r false e x = none_ran (suc n) k c s r (λ o. absurd (not_open_told s.phase e o))
+  run_by n k c s r false e x = none_ran (suc n) k c s r (λ o. absurd (not_open s.phase e o))
 
   pub run_is_series : (n k c : ℕ) (s : State) → Series p w os k s → Ran p w os k n c (run p n c s)
   unfolding run

@@ -1,5 +1,5 @@
 -- Which phase a verdict tells of. Assumes nothing.
-use Rattle.std.proofs.Common.{◌≡◌, ℕ, true, false, refl, subst, arith}
+use Rattle.std.proofs.Common.{◌≡◌, ℕ, true, refl, subst}
 use Rattle.worksheet.specs.declared.records.Phase.{Phase}
 use Rattle.worksheet.specs.declared.records.Phase.TheVariants as phase
 use Rattle.worksheet.specs.Steps.{is_open}
@@ -32,6 +32,3 @@ open_told phase.Fresh e = cc
 open_told (phase.Found i m) e = cc
 open_told phase.Exhausted e = cc
 open_told (phase.Stopped why) e = cc
-
-pub not_open_told : (q : Phase) → is_open q ≡ false → q ≡ phase.Open → ⊥
-not_open_told q e f = let z : ◌≡◌ {A = ℕ} 0 1 = cc in omega arith

@@ -131,7 +131,7 @@ module _ (s : Setting) (lawful : Lawful s.terms) where
   tells_verdict w (Some q) os n v js is = subst (λ (x : Query). Tells s x os n js (verdict_on w)) v.0 (tells_here w os n v.1 js is)
 
   pub chain_found : (w : Worksheet) (o : Option Query) (os : List Mark) (n : ℕ) → ComesTo s w o os n → (i : ℕ) (m : Mark) → w.state.phase ≡ phase.Found i m → found_chain s w i ≡ Some (trace w.state.labels i)
-  chain_found w None os n v i m e = let fresh = made_fresh s w v in let z : ◌≡◌ {A = ℕ} 0 1 = cc in absurd (omega arith)
+  chain_found w None os n v i m e = let fresh = made_fresh s w v in cc
   chain_found w (Some q) os n v i m e = chain_here w os n v.1 i m e
 
   -- No call alters how many label records there are.

@@ -17,7 +17,8 @@ use Rattle.promise.specs.declared.calls.Answer.TheVariants as answer
 use Rattle.promise.specs.declared.calls.Call.{Call}
 use Rattle.promise.specs.declared.calls.Call.TheVariants as call
 use Rattle.promise.specs.Conduct.{verdict_on, Gives, Does, opens, advances, tells, traces}
-use Rattle.promise.proofs.Telling.{open_told, not_open_told}
+use Rattle.worksheet.proofs.Ways.{not_open}
+use Rattle.promise.proofs.Telling.{open_told}
 
 -- The chain from the label that is found.
 abbrev pub found_chain : Setting → Worksheet → ℕ → Option (List ℕ)
@@ -62,20 +63,20 @@ module _ (s : Setting) (w : Worksheet) where
 
   advance_way : (k : ℕ) (r : Result ℕ Refusal) (u : Worksheet) (b : Bool) → is_open w.state.phase ≡ b → outcome r u ≡ cond b (run_outcome w (run_of s w k)) (outcome (Err why.NotOpen) w) → Way s w (call.Advance k) (answer.Advanced r) u
   advance_way k r u true e d = way_by s w (call.Advance k) (λ x. answer.Advanced x) r (Ok (run_of s w k).made) u _ d (advanced k (open_told w.state.phase e))
-  advance_way k r u false e d = way_by s w (call.Advance k) (λ x. answer.Advanced x) r (Err why.NotOpen) u w d (advance_refused k (not_open_told w.state.phase e))
+  advance_way k r u false e d = way_by s w (call.Advance k) (λ x. answer.Advanced x) r (Err why.NotOpen) u w d (advance_refused k (not_open w.state.phase e))
 
   -- A trace into the buffer b, which then is c.
   module _ (n : ℕ) (b c : List ℕ) (size : length b ≡ n) where
     -- Refused by x, it gives x.
     refused_way : (r : Result ℕ Refusal) (x : Refusal) (a : Result (Vec ℕ) Refusal) → traced r c ≡ traced (Err x) b → Gives r c a → Way s w (call.Trace n) (answer.Traced (Err x)) w → Way s w (call.Trace n) (answer.Traced a) w
-    refused_way (Ok k) x a e g way = let answered = ap (λ (t : Traced). t.answer) e in let z : ◌≡◌ {A = ℕ} 0 1 = cc in absurd (omega arith)
+    refused_way (Ok k) x a e g way = let answered = ap (λ (t : Traced). t.answer) e in cc
     refused_way (Err y) x (Ok legs) e g way = absurd g
     refused_way (Err y) x (Err z) e g way = let answered = ap (λ (t : Traced). t.answer) e in let same : x ≡ z = cc in subst (λ (v : Refusal). Way s w (call.Trace n) (answer.Traced (Err v)) w) same way
 
     -- Accepted, it gives the legs js that it wrote.
     written_way : (i : ℕ) (m : Mark) (js : List ℕ) → w.state.phase ≡ phase.Found i m → found_chain s w i ≡ Some js → length js ≤ n
         → (r : Result ℕ Refusal) (a : Result (Vec ℕ) Refusal) → traced r c ≡ traced (Ok (length js)) (js ++ drop (length js) b) → Gives r c a → Way s w (call.Trace n) (answer.Traced a) w
-    written_way i m js f l h (Err y) a e g = let answered = ap (λ (t : Traced). t.answer) e in let z : ◌≡◌ {A = ℕ} 0 1 = cc in absurd (omega arith)
+    written_way i m js f l h (Err y) a e g = let answered = ap (λ (t : Traced). t.answer) e in cc
     written_way i m js f l h (Ok k) (Err x) e g = absurd g
     written_way i m js f l h (Ok k) (Ok legs) e g =
         let answered = ap (λ (t : Traced). t.answer) e in
@@ -94,11 +95,11 @@ module _ (s : Setting) (w : Worksheet) where
     chain_way i m f (Some js) l r a e g = laid_way i m js f l (leb (length js) (length b)) refl r a e g
 
     trace_way : (p : Phase) → w.state.phase ≡ p → (r : Result ℕ Refusal) (a : Result (Vec ℕ) Refusal) → traced r c ≡ traced_in s.net s.table w.state.count w.state.labels p b → Gives r c a → Way s w (call.Trace n) (answer.Traced a) w
-    trace_way phase.Fresh f r a e g = refused_way r why.NotFound a e g (none_found n (λ i m q. let z : ◌≡◌ {A = ℕ} 0 1 = cc in omega arith))
-    trace_way phase.Open f r a e g = refused_way r why.NotFound a e g (none_found n (λ i m q. let z : ◌≡◌ {A = ℕ} 0 1 = cc in omega arith))
+    trace_way phase.Fresh f r a e g = refused_way r why.NotFound a e g (none_found n (λ i m q. cc))
+    trace_way phase.Open f r a e g = refused_way r why.NotFound a e g (none_found n (λ i m q. cc))
     trace_way (phase.Found i m) f r a e g = chain_way i m f (found_chain s w i) refl r a e g
-    trace_way phase.Exhausted f r a e g = refused_way r why.NotFound a e g (none_found n (λ i m q. let z : ◌≡◌ {A = ℕ} 0 1 = cc in omega arith))
-    trace_way (phase.Stopped x) f r a e g = refused_way r why.NotFound a e g (none_found n (λ i m q. let z : ◌≡◌ {A = ℕ} 0 1 = cc in omega arith))
+    trace_way phase.Exhausted f r a e g = refused_way r why.NotFound a e g (none_found n (λ i m q. cc))
+    trace_way (phase.Stopped x) f r a e g = refused_way r why.NotFound a e g (none_found n (λ i m q. cc))
 
   pub way : (c : Call) (x : Answer) (u : Worksheet) → Does s w c x u → Way s w c x u
   way c x u (opens q r v e fits) = open_way q r v (open_refusal s q) refl e fits

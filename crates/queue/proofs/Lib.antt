@@ -1,4 +1,3 @@
 pub mod Orders
 pub mod Bags
 mod Fillings
-mod Derived

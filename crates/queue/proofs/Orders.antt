@@ -1,7 +1,8 @@
 -- The order of entries is a strict total order.
 -- Assumes nothing.
 use Rattle.std.proofs.Common.{◌≡◌, ℕ, ◌<◌, ◌≤◌, Bool, true, false, ◌⊎◌, Ordering, Less, Equal, Greater, sym, refl, ap, ◌∙◌, subst, inl, inr, true≢false, arith}
-use Rattle.std.specs.Cmp.{IsTotalOrder, nat_cmp_total, nat_cmp_is, ranks, then_total, on_total, IsStrictWeakOrder, upto}
+use Rattle.std.proofs.lemmas.List.MinMax.{ranks_by}
+use Rattle.std.specs.Cmp.{IsTotalOrder, nat_cmp_total, nat_cmp_is, ranks, then_total, on_total, IsStrictWeakOrder}
 use Rattle.std.specs.Ordering.{is_lt, is_gt, ordering_reverse, ordering_then, MatchOrdering, nat_cmp}
 use Rattle.queue.specs.declared.entry.Entry.{Entry}
 use Rattle.queue.specs.Order.{compared, before}
@@ -16,28 +17,8 @@ total =
 pub compared_flip : (x y : Entry) → compared x y ≡ ordering_reverse (compared y x)
 compared_flip = total.antisymm
 
-pub compared_trans : (x y z : Entry) → compared x y ≡ Less → compared y z ≡ Less → compared x z ≡ Less
-compared_trans = total.trans
-
--- Not less one way round is not greater the other.
-turned : (o : Ordering) → is_lt o ≡ is_gt (ordering_reverse o)
-turned Less = refl
-turned Equal = refl
-turned Greater = refl
-
-not_after : (x y : Entry) → before x y ≡ false → is_gt (compared y x) ≡ false
-not_after x y h = ap is_gt (total.antisymm y x) ∙ sym (turned (compared x y)) ∙ h
-
-one_way_by : (o : Ordering) → is_lt o ≡ true → is_lt (ordering_reverse o) ≡ false
-one_way_by Less h = refl
-one_way_by Equal h = refl
-one_way_by Greater h = absurd (true≢false (sym h))
-
 pub ranked : IsStrictWeakOrder before
-ranked = record {
-  one_way = λ x y h. ap is_lt (total.antisymm y x) ∙ one_way_by (compared x y) h;
-  chain = λ x y z h k. turned (compared x z) ∙ ap is_gt (sym (total.antisymm z x)) ∙ upto total z y x (not_after y z k) (not_after x y h);
-}
+ranked = ranks_by total (λ (e : Entry). e)
 
 -- Asymmetric: of two entries at most one comes before the other.
 pub before_asymmetric : (x y : Entry) → before x y ≡ true → before y x ≡ false
@@ -53,14 +34,6 @@ before_irreflexive x = itself x _ refl
 -- A chain of entries none of which comes before the one ahead of it.
 pub not_before_chain : (x y z : Entry) → before x y ≡ false → before y z ≡ false → before x z ≡ false
 not_before_chain = ranked.chain
-
-is_less : (o : Ordering) → is_lt o ≡ true → o ≡ Less
-is_less Less h = refl
-is_less Equal h = absurd (true≢false (sym h))
-is_less Greater h = absurd (true≢false (sym h))
-
-pub before_transitive : (x y z : Entry) → before x y ≡ true → before y z ≡ true → before x z ≡ true
-before_transitive x y z h k = ap is_lt (compared_trans x y z (is_less _ h) (is_less _ k))
 
 both_equal : (a b : Ordering) → ordering_then a b ≡ Equal → (a ≡ Equal) × (b ≡ Equal)
 both_equal Less b h = absurd (true≢false (ap is_lt h))
@@ -132,9 +105,6 @@ at_cost x y h k = at_estimate x y h ∙ level x.cost y.cost (past_cost x y) k
 pub before_by_delay : (x y : Entry) → x.estimate ≡ y.estimate → x.cost ≡ y.cost → x.delay < y.delay → before x y ≡ true
 before_by_delay x y h k l = at_cost x y h k ∙ lesser x.delay y.delay (past_delay x y) l
 
-pub before_by_label : (x y : Entry) → x.estimate ≡ y.estimate → x.cost ≡ y.cost → x.delay ≡ y.delay → x.label < y.label → before x y ≡ true
-before_by_label x y h k l m = at_cost x y h k ∙ level x.delay y.delay (past_delay x y) l ∙ sym (ap is_lt (nat_cmp_is x.label y.label Less m))
-
 -- The other way round: where y does not come before x, the first field that differs is less in x.
 pub not_before_estimate : (x y : Entry) → before y x ≡ false → x.estimate ≤ y.estimate
 not_before_estimate x y h = let n : y.estimate < x.estimate → ⊥ = λ l. true≢false (sym (before_by_estimate y x l) ∙ h) in omega arith
@@ -144,6 +114,3 @@ not_before_cost x y h p = let n : y.cost < x.cost → ⊥ = λ l. true≢false (
 
 pub not_before_delay : (x y : Entry) → before y x ≡ false → x.estimate ≡ y.estimate → x.cost ≡ y.cost → x.delay ≤ y.delay
 not_before_delay x y h p q = let n : y.delay < x.delay → ⊥ = λ l. true≢false (sym (before_by_delay y x (sym p) (sym q) l) ∙ h) in omega arith
-
-pub not_before_label : (x y : Entry) → before y x ≡ false → x.estimate ≡ y.estimate → x.cost ≡ y.cost → x.delay ≡ y.delay → x.label ≤ y.label
-not_before_label x y h p q r = let n : y.label < x.label → ⊥ = λ l. true≢false (sym (before_by_label y x (sym p) (sym q) (sym r) l) ∙ h) in omega arith

@@ -27,15 +27,6 @@ impl Entry {
     pub fn precedes(&self, other: &Entry) -> bool
         ensures { result ≡ before self.now other.now }
     {
-        if self.estimate != other.estimate {
-            return self.estimate < other.estimate;
-        }
-        if self.cost != other.cost {
-            return self.cost < other.cost;
-        }
-        if self.delay != other.delay {
-            return self.delay < other.delay;
-        }
-        self.label < other.label
+        self < other
     }
 }

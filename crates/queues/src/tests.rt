@@ -19,22 +19,6 @@ fn entry(estimate: u64, cost: u64, delay: u32, label: usize) -> Entry {
     }
 }
 
-fn put_sorted(list: &mut Vec<Entry>, e: Entry) -> Result<Result<(), Full>, Fail> {
-    if list.len() == MOST {
-        return Ok(Err(Full));
-    }
-    list.push(e)?;
-    list.sort()?;
-    Ok(Ok(()))
-}
-
-fn take_sorted(list: &mut Vec<Entry>) -> Option<Entry> {
-    if list.is_empty() {
-        return None;
-    }
-    Some(list.remove(0))
-}
-
 // One put or one take of all three, by a number of the generator: few keys, so that many are equal.
 fn turn(
     rt: &impl Abort,
@@ -50,11 +34,21 @@ fn turn(
             ((r >> 8) % 2) as u32,
             ((r >> 12) % 3) as usize,
         );
-        let expected = put_sorted(list, e)?;
+        let expected = if list.len() < MOST {
+            list.push(e)?;
+            list.sort()?;
+            Ok(())
+        } else {
+            Err(Full)
+        };
         assert_eq!(rt; heap.put(e), expected);
         assert_eq!(rt; row.put(e), expected);
     } else {
-        let expected = take_sorted(list);
+        let expected = if list.is_empty() {
+            None
+        } else {
+            Some(list.remove(0))
+        };
         assert_eq!(rt; heap.take(), expected);
         assert_eq!(rt; row.take(), expected);
     }
@@ -78,14 +72,14 @@ fn both_agree_with_a_sorted_list(rt: HostRuntime) -> Result<(), Fail> {
     Ok(())
 }
 
-fn holds_none<Q: Queue>(rt: &impl Abort, queue: &mut Q) {
+fn holds_none(rt: &impl Abort, queue: &mut impl Queue) {
     assert_eq!(rt; queue.capacity(), 0);
     assert_eq!(rt; queue.put(entry(1, 1, 1, 1)), Err(Full));
     assert_eq!(rt; queue.count(), 0);
     assert_eq!(rt; queue.take(), None);
 }
 
-fn holds_one<Q: Queue>(rt: &impl Abort, queue: &mut Q) {
+fn holds_one(rt: &impl Abort, queue: &mut impl Queue) {
     assert_eq!(rt; queue.capacity(), 1);
     assert_eq!(rt; queue.take(), None);
     assert_eq!(rt; queue.put(entry(2, 1, 1, 1)), Ok(()));
@@ -106,7 +100,7 @@ fn small_capacities(rt: HostRuntime) -> Result<(), Fail> {
     Ok(())
 }
 
-fn sorts_five<Q: Queue>(rt: &impl Abort, queue: &mut Q) {
+fn sorts_five(rt: &impl Abort, queue: &mut impl Queue) {
     let mut five = [
         entry(2, 5, 0, 4),
         entry(2, 4, 9, 3),
@@ -115,11 +109,14 @@ fn sorts_five<Q: Queue>(rt: &impl Abort, queue: &mut Q) {
         entry(2, 4, 8, 7),
     ];
     assert_eq!(rt; sort(queue, &mut five), Ok(()));
-    assert_eq!(rt; five[0], entry(1, 9, 9, 9));
-    assert_eq!(rt; five[1], entry(2, 4, 8, 7));
-    assert_eq!(rt; five[2], entry(2, 4, 9, 2));
-    assert_eq!(rt; five[3], entry(2, 4, 9, 3));
-    assert_eq!(rt; five[4], entry(2, 5, 0, 4));
+    let rising = [
+        entry(1, 9, 9, 9),
+        entry(2, 4, 8, 7),
+        entry(2, 4, 9, 2),
+        entry(2, 4, 9, 3),
+        entry(2, 5, 0, 4),
+    ];
+    assert_eq!(rt; five, rising);
     assert_eq!(rt; queue.count(), 0);
 }
 

@@ -88,7 +88,7 @@ module _ (g : Graph) (n goal : ℕ) (reg : Regular g n) (few : n ≤ 1024) where
 
   falls_all : (legs : List Leg) → AllByRecursion (LegOf g) legs → (t : Tables) → Witnesses g n goal t → changes g legs t ≡ true → height (passed g legs t) < height t
   unfolding passed changes
-  falls_all [] of t holds e = let z : ◌≡◌ {A = ℕ} 0 1 = cc in absurd (omega arith)
+  falls_all [] of t holds e = cc
   falls_all (leg ∷ legs) of t holds e =
       let after = keeps leg of.0 t holds in
       ⊎_elim

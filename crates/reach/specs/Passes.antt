@@ -1,5 +1,7 @@
 -- What passing over the legs makes of the two tables. Assumes nothing.
-use Rattle.std.specs.Prelude.{ℕ, ◌+◌, min, Bool, false, cond, ◌&&◌, ◌||◌, List, [], ◌∷◌, nat_lt, slice_index, slice_set}
+use Rattle.std.specs.Prelude.{ℕ, ◌+◌, min, Bool, false, cond, ◌&&◌, ◌||◌, List, [], ◌∷◌, nat_lt, slice_index, slice_index_or, slice_set}
+use Rattle.std.specs.Ordering.{is_lt}
+use Rattle.std.specs.declared.cmp.Ordering.{Ordering}
 use Rattle.network.specs.declared.legs.Leg.{Leg}
 use Rattle.network.specs.Walks.{Graph}
 use Rattle.reach.specs.Reaches.{largest_delay}
@@ -26,6 +28,13 @@ lowered xs i value = slice_set xs i (min (slice_index xs i) value)
 
 abbrev pub lowers : List ℕ → ℕ → ℕ → Bool
 lowers xs i value = nat_lt value (slice_index xs i)
+
+-- The same by an order of the records.
+abbrev pub lowers_by : {N : Type 0} → (N → N → Ordering) → List N → ℕ → N → Bool
+lowers_by cmp xs i value = is_lt (cmp value (slice_index_or xs i value))
+
+abbrev pub lowered_by : {N : Type 0} → (N → N → Ordering) → List N → ℕ → N → List N
+lowered_by cmp xs i value = cond (lowers_by cmp xs i value) (slice_set xs i value) xs
 
 -- The tables after one leg: where a walk from its head has been met, the records of its tail are lowered by way of its head.
 abbrev pub relaxed : Graph → Leg → Tables → Tables

@@ -1,5 +1,5 @@
 -- What a reach answers and writes: the least cost and the least delay to a goal over all walks. Assumes nothing.
-use Rattle.std.specs.Prelude.{◌≡◌, ℕ, ◌<◌, Bool, ◌&&◌, List, drop, Some, None, Ok, Err, Option, Result, nat_le, nat_lt, slice_index}
+use Rattle.std.specs.Prelude.{◌≡◌, ℕ, ◌<◌, Bool, ◌&&◌, List, drop, Some, None, Option, nat_le, nat_lt, slice_index}
 use Rattle.network.specs.declared.estimates.Bound.{Bound}
 use Rattle.network.specs.declared.legs.Leg.{Leg}
 use Rattle.network.specs.declared.legs.Network.{Network}
@@ -18,11 +18,6 @@ reach_refusal net table goal costs delays =
     network_refusal net table
     (unless (nat_lt goal net.sites) why.Site
     (unless (tables_hold net.sites costs delays) why.Room None))
-
--- What a call answers that is refused or is not.
-abbrev pub answer_by : Option Refusal → Result Unit Refusal
-answer_by None = Ok tt
-answer_by (Some why) = Err why
 
 -- The largest cost and the largest delay: the records of a site from which no walk leads to the goal.
 abbrev pub largest_cost : ℕ

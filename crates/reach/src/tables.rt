@@ -22,60 +22,45 @@
 // no memory but the two tables.
 ghost use Rattle.std.specs.Prelude.{◌≡◌, ℕ, ◌<◌, ◌≤◌, true, ◌&&◌, [], length, MatchResult, OnOk, ◌==◌, slice_index, slice_index_or};
 ghost use Rattle.network.specs.Legs.{leg_in_range};
-ghost use Rattle.network.specs.Checks.{legs_of};
+ghost use Rattle.network.specs.Checks.{answer_by, legs_of};
 ghost use Rattle.network.specs.Walks.{Graph, graph, no_leg};
 ghost use Rattle.network.specs.Estimates.{tables_at, LawfulTowards};
-ghost use Rattle.reach.specs.Reaches.{reach_refusal, answer_by, Nearest, Written, Between};
-ghost use Rattle.reach.specs.Passes.{lowered, lowers, relaxed, relaxes, passed, changes};
+ghost use Rattle.reach.specs.Reaches.{reach_refusal, Nearest, Written, Between};
+ghost use Rattle.reach.specs.Passes.{lowered_by, lowers_by, relaxed, relaxes, passed, changes};
 
 use network::estimates::Bound;
 use network::legs::*;
 use network::refusals::Refusal;
 use network::tariffs::Tariff;
 
-// Why a reach is refused, if it is.
-fn refusal(
+// Refuses a reach by its network and leg table, then by a goal that is no site, then by a table too short.
+fn check(
     network: &Network,
     table: &[Leg],
     goal: u16,
     costs: usize,
     delays: usize,
-) -> Option<Refusal>
-    ensures { result ≡ reach_refusal network.now table.now goal costs delays }
+) -> Result<(), Refusal>
+    ensures { result ≡ answer_by (reach_refusal network.now table.now goal costs delays) }
 {
-    if let Some(why) = network.refusal(table) {
-        return Some(why);
-    }
+    network.check(table)?;
     if goal >= network.sites {
-        return Some(Refusal::Site);
+        return Err(Refusal::Site);
     }
     if costs < network.sites as usize || delays < network.sites as usize {
-        return Some(Refusal::Room);
+        return Err(Refusal::Room);
     }
-    None
+    Ok(())
 }
 
-// Lowers the cost of a site, if the new one is less, and answers whether it did.
-fn lower_cost(costs: &mut [u64], site: usize, cost: u64) -> bool
-    requires { site < length costs.old }
-    ensures value { result ≡ lowers costs.old site cost }
-    ensures after { costs.new ≡ lowered costs.old site cost }
+// Lowers the record of a site, if the new one is less, and answers whether it did.
+fn lower<N: Copy + Ord>(records: &mut [N], site: usize, value: N) -> bool
+    requires { site < length records.old }
+    ensures value { result ≡ lowers_by N.cmp records.old site value }
+    ensures after { records.new ≡ lowered_by N.cmp records.old site value }
 {
-    if cost < costs[site] {
-        costs[site] = cost;
-        return true;
-    }
-    false
-}
-
-// The same of the delay.
-fn lower_delay(delays: &mut [u32], site: usize, delay: u64) -> bool
-    requires { site < length delays.old }
-    ensures value { result ≡ lowers delays.old site delay }
-    ensures after { delays.new ≡ lowered delays.old site delay }
-{
-    if delay < delays[site] as u64 {
-        delays[site] = delay as u32;
+    if value < records[site] {
+        records[site] = value;
         return true;
     }
     false
@@ -95,8 +80,9 @@ fn relax<T: Tariff>(leg: &Leg, tariff: &T, costs: &mut [u64], delays: &mut [u32]
     }
     let price = tariff.price(leg.fee, leg.grade);
     let cost = tariff.join(price, costs[leg.head as usize]);
-    let sooner = lower_delay(delays, leg.tail as usize, leg.delay() + onward as u64);
-    let cheaper = lower_cost(costs, leg.tail as usize, cost);
+    let delay = u32::try_from(leg.delay() + onward as u64).unwrap_or(u32::MAX);
+    let sooner = lower(delays, leg.tail as usize, delay);
+    let cheaper = lower(costs, leg.tail as usize, cost);
     sooner || cheaper
 }
 
@@ -150,9 +136,7 @@ pub fn reach<T: Tariff>(
     ensures estimate_is_least { OnOk result ((u : ℕ) → u < network.now.sites → Between (graph (T.terms tariff.now) (legs_of network.now table.now)) u goal (tables_at costs.new delays.new u)) }
     ensures estimate_is_lawful { OnOk result (LawfulTowards (graph (T.terms tariff.now) (legs_of network.now table.now)) (tables_at costs.new delays.new) goal) }
 {
-    if let Some(why) = refusal(network, table, goal, costs.len(), delays.len()) {
-        return Err(why);
-    }
+    check(network, table, goal, costs.len(), delays.len())?;
     let legs = &table[0..network.legs as usize];
     let sites = network.sites as usize;
     settle(
@@ -170,7 +154,7 @@ pub fn same_records(a: Bound, b: Bound) -> bool
     ensures value { result ≡ (a.cost == b.cost && a.delay == b.delay) }
     ensures nearest_is_unique { (g : Graph) (u goal : ℕ) → Nearest g u goal a.cost a.delay → Nearest g u goal b.cost b.delay → result ≡ true }
 {
-    a.cost == b.cost && a.delay == b.delay
+    a == b
 }
 
 #[cfg(test)]

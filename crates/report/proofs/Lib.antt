@@ -1,4 +1,4 @@
 mod Listing
 mod Carrying
 mod Telling
-mod Starting
+pub mod Starting

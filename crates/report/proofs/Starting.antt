@@ -1,6 +1,7 @@
 -- A sheet from its first line on: its load, and the text that answers it. Assumes nothing.
-use Rattle.std.proofs.Common.{◌≡◌, ℕ, min, List, [], ◌++◌, length, take, Ok, Err, Option, Result, sym, refl, ap, ◌∙◌, subst, ap₂, inl, inr, arith, take_all}
-use Rattle.std.proofs.lemmas.Bool.{cases_lt}
+use Rattle.std.proofs.Common.{◌≡◌, ℕ, min, List, [], ◌++◌, length, take, Ok, Err, Option, Result, sym, refl, ap, ◌∙◌, subst, ap₂, arith}
+use Rattle.std.proofs.Math.Nat.{min_comm}
+use Rattle.std.proofs.lemmas.List.{take_min}
 use Rattle.network.specs.declared.legs.Leg.{Leg}
 use Rattle.network.specs.declared.legs.Network.{Network}
 use Rattle.network.specs.declared.refusals.Refusal.{Refusal}
@@ -10,18 +11,17 @@ use Rattle.sheet.specs.Text.{lines}
 use Rattle.sheet.specs.Sheets.{Load, loaded_from}
 use Rattle.sheet.specs.Calls.{load_of, answered, answer_of, replaced, network_after, reader_after, fronted}
 use Rattle.planner.specs.declared.tally.Tally.{Tally}
-use Rattle.planner.specs.Tallies.{whole}
 use Rattle.report.specs.declared.lines.Refused.{Refused}
 use Rattle.report.specs.Lines.{header, end_line}
 use Rattle.report.proofs.Carrying.{carries_at, load_carries}
 use Rattle.report.specs.Reports.{met, load_of_sheet, DeskTold, SheetTold, load_refused, loaded, Reports}
 
 -- What the answer of a load tells of its outcome.
-refused_outcome : (x : Result Network Refusal) (why : Refusal) → Err why ≡ answered x → x ≡ Err why
-refused_outcome (Ok net) why e = let z : ◌≡◌ {A = ℕ} 0 1 = cc in absurd (omega arith)
+pub refused_outcome : (x : Result Network Refusal) (why : Refusal) → Err why ≡ answered x → x ≡ Err why
+refused_outcome (Ok net) why e = cc
 refused_outcome (Err r) why e = let same : why ≡ r = cc in ap Err (sym same)
 
-accepted_outcome : (x : Result Network Refusal) (a : Result Unit Refusal) (old : Network) → ((why : Refusal) → a ≡ Err why → ⊥) → a ≡ answered x → x ≡ Ok (replaced x old)
+pub accepted_outcome : (x : Result Network Refusal) (a : Result Unit Refusal) (old : Network) → ((why : Refusal) → a ≡ Err why → ⊥) → a ≡ answered x → x ≡ Ok (replaced x old)
 accepted_outcome (Ok net) a old ok e = refl
 accepted_outcome (Err r) a old ok e = absurd (ok r e)
 
@@ -55,11 +55,7 @@ module _ (sheet : List ℕ) (tally : Tally) (table : List Leg) (r : Reader) (mad
 
 -- The first bytes of the input, as many as there are.
 pub first_bytes : (input : List ℕ) (n m k : ℕ) → k ≡ min (length input) m → n ≡ k → take n input ≡ take m input
-first_bytes input n m k e f =
-    elim (cases_lt (length input) m) [
-      | inl h ↦ take_all n input (omega (arith, e, f)) ∙ sym (take_all m input (omega arith))
-      | inr h ↦ let same : n ≡ m = omega (arith, e, f) in ap (λ i. take i input) same
-    ]
+first_bytes input n m k e f = ap (λ i. take i input) (f ∙ e ∙ min_comm (length input) m) ∙ take_min m input
 
 -- The pieces of the text.
 pub reports : (sheet part : List ℕ) (tally : Tally) (a b c : List ℕ) (end : Option Refused) → part ≡ sheet → a ≡ header → (plans : List ℕ) → b ≡ a ++ plans → SheetTold part tally plans end → c ≡ b ++ end_line end → Reports sheet tally c end
@@ -68,7 +64,3 @@ reports sheet part tally a b c end s e plans f told g = record {
   told = subst (λ (xs : List ℕ). SheetTold xs tally plans end) s told;
   lines_are = g ∙ ap (λ (xs : List ℕ). xs ++ end_line end) (f ∙ ap (λ (xs : List ℕ). xs ++ plans) e);
 }
-
--- The tally is a whole one.
-pub from_whole : (sheet : List ℕ) (tally : Tally) (text : List ℕ) (end : Option Refused) → tally ≡ whole → Reports sheet tally text end → Reports sheet whole text end
-from_whole sheet tally text end e t = subst (λ (x : Tally). Reports sheet x text end) e t

@@ -1,5 +1,5 @@
 -- What a sheet is answered: a line for each plan in its order, up to the first refusal. Assumes nothing.
-use Rattle.std.specs.Prelude.{◌≡◌, ℕ, true, List, [], ◌++◌, length, drop, Some, None, Ok, Err, Option}
+use Rattle.std.specs.Prelude.{◌≡◌, ◌⊎◌, ℕ, true, List, [], ◌++◌, length, drop, Some, None, Ok, Err, Option, Result}
 use Rattle.network.specs.declared.legs.Leg.{Leg}
 use Rattle.network.specs.declared.legs.Network.{Network}
 use Rattle.network.specs.declared.plans.Plan.{Plan}
@@ -25,6 +25,13 @@ met why line = Some (record { why = why; line = line })
 -- What the next plan of a sheet is, from a place and line on, after an accepted load, in a network of n sites.
 abbrev pub next_at : List ℕ → ℕ → ℕ → ℕ → Next
 next_at sheet n at line = next_from true n at line (lines (drop at sheet))
+
+-- What comes next of a sheet is served at the desk d, which is e then: the plan, by its verdict; or none is left; or a refusal is
+-- passed on, of the line or of its plan.
+abbrev pub NextServed : Ground → Next → Desk → Result (Option (Plan × Verdict)) Refusal → Desk → Type 0
+NextServed g next d (Ok None) e = (next.answer ≡ Ok None) × (e ≡ d)
+NextServed g next d (Ok (Some x)) e = (next.answer ≡ Ok (Some x.0)) × Serves g x.0 d (Ok x.1) e × Fulfils g x.0 d x.1 e
+NextServed g next d (Err why) e = ((next.answer ≡ Err why) × (e ≡ d)) ⊎ ((p : Plan) × (next.answer ≡ Ok (Some p)) × Serves g p d (Err why) e)
 
 -- The plans from a place and line on, served one after another at a desk, are answered by this text and end so: with none left,
 -- or with a refusal, of a line by the reader, which carries that line, or of its plan by serve. Each plan that is served has its

@@ -1,45 +1,75 @@
 // A sheet, and the text that answers its plans.
-ghost use Rattle.std.specs.Prelude.{◌≡◌, ℕ, true, List, ◌++◌, length, take, IfOk};
+ghost use Rattle.std.specs.Prelude.{◌≡◌, ℕ, true, List, ◌++◌, take, IfOk, OnOk};
 ghost use Rattle.network.specs.Tariffs.{total_fee};
 ghost use Rattle.planner.specs.Serves.{ground};
+ghost use Rattle.planner.specs.Desks.{desk_of, room};
 ghost use Rattle.planner.specs.Tallies.{whole};
-ghost use Rattle.report.specs.Desks.{desk_of};
-ghost use Rattle.report.specs.Reports.{PlansTold, DeskTold, SheetTold, Reports};
+ghost use Rattle.sheet.specs.Calls.{moved, next_of};
+ghost use Rattle.report.specs.Reports.{NextServed, PlansTold, DeskTold, SheetTold, Reports};
 
-use crate::desk::Desk;
-use crate::lines::{Refused, push_end};
+use crate::lines::{Refused, push_end, push_plan};
 use network::legs::*;
+use network::plans::Plan;
+use network::refusals::Refusal;
+use network::tariffs::TotalFee;
+use planner::desk::Desk;
 use planner::tally::Tally;
+use search::record::Verdict;
 use sheet::reader::Reader;
 use std::alloc::{AllocError, Global};
 
-// Serves the plans that are left and adds a line for each, until none is left or one is refused; answers the refusal.
-fn tell_plans(
+// How many sites the desk has tables for.
+const SITES: usize = 64;
+
+// How many legs there is room for.
+const LEGS: usize = 256;
+
+// How many label records the desk has, and entries it has room for.
+const LABELS: usize = 1_024;
+
+// Reads the next plan and serves it at the desk by the total fee, or tells that none is left.
+fn serve_next(
     reader: &mut Reader<'_>,
     network: &Network,
     table: &[Leg],
-    desk: &mut Desk,
+    desk: &mut Desk<SITES>,
+    tally: &mut Tally,
+) -> Result<Option<(Plan, Verdict)>, Refusal>
+    ensures served { NextServed (ground network.now table.now total_fee (room desk.old)) (next_of network.now.sites reader.old) (desk_of desk.old tally.old) result (desk_of desk.new tally.new) }
+    ensures reader { OnOk result (reader.new ≡ moved reader.old (next_of network.now.sites reader.old).at (next_of network.now.sites reader.old).line) }
+    ensures same_room { room desk.new ≡ room desk.old }
+{
+    let Some(plan) = reader.next(network)? else {
+        return Ok(None);
+    };
+    let verdict = desk.serve(plan, network, table, &TotalFee, tally)?;
+    Ok(Some((plan, verdict)))
+}
+
+// Serves the plans that are left and adds a line for each, until none is left or one is refused; answers the refusal.
+fn tell_plans(
+    heap: Global,
+    reader: &mut Reader<'_>,
+    network: &Network,
+    table: &[Leg],
+    desk: &mut Desk<SITES>,
+    tally: &mut Tally,
     text: &mut Vec<u8>,
 ) -> Result<Option<Refused>, AllocError>
     requires loaded { reader.old.loaded ≡ true }
-    requires labels { length desk.old.labels ≡ 1024 }
-    requires entries { desk.old.queue.most ≡ 1024 }
-    ensures { IfOk result (λ end. (more : List ℕ) × (text.new.items ≡ text.old.items ++ more) × PlansTold (ground network.now table.now total_fee 1024) reader.old.sheet.now reader.old.place reader.old.line (desk_of desk.old) more end) }
+    requires room { room desk.old ≡ 1024 }
+    ensures { IfOk result (λ end. (more : List ℕ) × (text.new.items ≡ text.old.items ++ more) × PlansTold (ground network.now table.now total_fee 1024) reader.old.sheet.now reader.old.place reader.old.line (desk_of desk.old tally.old) more end) }
 {
     'plans: loop {
         let line = reader.line();
-        let next = match reader.next(network) {
-            Ok(next) => next,
+        match serve_next(reader, network, table, desk, tally) {
+            Ok(Some((plan, verdict))) => {
+                let legs = desk.route(heap, network, table)?;
+                push_plan(text, plan, verdict, &legs)?;
+            }
+            Ok(None) => return Ok(None),
             Err(why) => return Ok(Some(Refused { why, line })),
-        };
-        let Some(plan) = next else {
-            return Ok(None);
-        };
-        let verdict = match desk.serve(plan, network, table) {
-            Ok(verdict) => verdict,
-            Err(why) => return Ok(Some(Refused { why, line })),
-        };
-        desk.tell(plan, verdict, network, table, text)?;
+        }
     }
 }
 
@@ -49,17 +79,17 @@ fn plan_loaded(
     reader: &mut Reader<'_>,
     network: &Network,
     table: &[Leg],
-    tally: Tally,
+    mut tally: Tally,
     text: &mut Vec<u8>,
 ) -> Result<Option<Refused>, AllocError>
     requires { reader.old.loaded ≡ true }
     ensures { IfOk result (λ end. (more : List ℕ) × (text.new.items ≡ text.old.items ++ more) × DeskTold network.now table.now tally reader.old.sheet.now reader.old.place reader.old.line more end) }
 {
-    let mut desk = Desk::new(heap, tally)?;
-    tell_plans(reader, network, table, &mut desk, text)
+    let mut desk = Desk::new(heap, LABELS)?;
+    tell_plans(heap, reader, network, table, &mut desk, &mut tally, text)
 }
 
-// The plans of a sheet, served from its tally, with room for 256 legs.
+// The plans of a sheet, served from its tally.
 fn tell_sheet(
     heap: Global,
     sheet: &[u8],
@@ -68,16 +98,8 @@ fn tell_sheet(
 ) -> Result<Option<Refused>, AllocError>
     ensures { IfOk result (λ end. (more : List ℕ) × (text.new.items ≡ text.old.items ++ more) × SheetTold sheet.now tally more end) }
 {
-    let blank = Leg {
-        tail: 0,
-        head: 0,
-        fee: 0,
-        grade: 0,
-        stated: 0,
-        medium: 0,
-    };
-    let mut table = [blank; 256];
-    let mut network = Network { sites: 0, legs: 0 };
+    let mut table = [Leg::default(); LEGS];
+    let mut network = Network::default();
     let mut reader = Reader::new(sheet);
     if let Err(why) = reader.load(&mut network, &mut table) {
         let line = reader.line();
@@ -101,7 +123,7 @@ pub const SHEET: usize = 16_384;
 pub fn plan_from(heap: Global, input: &[u8], tally: Tally) -> Result<Report, AllocError>
     ensures { IfOk result (λ x. Reports (take 16384 input.now) tally x.text.items x.refused) }
 {
-    let sheet = &input[0..input.len().min(SHEET)];
+    let sheet = &input[..input.len().min(SHEET)];
     let mut text = Vec::from_slice(heap, b"result,broker,steps,cost,delay,legs\n")?;
     let refused = tell_sheet(heap, sheet, tally, &mut text)?;
     push_end(&mut text, refused)?;

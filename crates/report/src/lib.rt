@@ -2,5 +2,4 @@
 #![tactic(auto)]
 
 pub mod answers;
-mod desk;
 pub mod lines;

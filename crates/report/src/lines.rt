@@ -1,50 +1,21 @@
 // The lines that answer plans.
-ghost use Rattle.std.specs.Prelude.{◌≡◌, [], ◌∷◌, ◌++◌, decimal, OnOk};
+ghost use Rattle.std.specs.Prelude.{◌≡◌, ℕ, List, ◌++◌, OnOk};
 ghost use Rattle.sheet.specs.Writing.{listed};
-ghost use Rattle.report.specs.Lines.{text_line, plan_line, end_line};
+ghost use Rattle.report.specs.Lines.{Print, text_line, plan_line, end_line};
 
 use network::plans::Plan;
 use network::refusals::Refusal;
 use search::record::*;
 use std::alloc::AllocError;
+use std::fmt::Display;
 
-// A number in decimal.
-fn push_number(text: &mut Vec<u8>, n: u64) -> Result<(), AllocError>
-    ensures { OnOk result (text.new.items ≡ text.old.items ++ decimal n) }
-{
-    if n < 10 {
-        text.push(b'0' + n as u8)?;
-        return Ok(());
-    }
-    push_number(text, n / 10)?;
-    text.push(b'0' + (n % 10) as u8)?;
-    Ok(())
-}
-
-// A comma, and a number in decimal.
-fn push_field(text: &mut Vec<u8>, n: u64) -> Result<(), AllocError>
-    ensures { OnOk result (text.new.items ≡ text.old.items ++ (44 ∷ decimal n)) }
-{
-    text.push(b',')?;
-    push_number(text, n)
-}
-
-// Numbers, each after a comma.
-fn push_fields(text: &mut Vec<u8>, numbers: &[u64]) -> Result<(), AllocError>
-    ensures { OnOk result (text.new.items ≡ text.old.items ++ listed numbers.now) }
+// Numbers in decimal, each after a comma.
+fn push_fields<T: Display>(text: &mut Vec<u8>, numbers: &[T]) -> Result<(), AllocError>
+    ensures { OnOk result ((ns : List ℕ) → Print T.output numbers.now ns → text.new.items ≡ text.old.items ++ listed ns) }
 {
     for n in numbers {
-        push_field(text, *n)?;
-    }
-    Ok(())
-}
-
-// Leg numbers, each after a comma.
-fn push_legs(text: &mut Vec<u8>, legs: &[u16]) -> Result<(), AllocError>
-    ensures { OnOk result (text.new.items ≡ text.old.items ++ listed legs.now) }
-{
-    for leg in legs {
-        push_field(text, *leg as u64)?;
+        let field = format!(in *text.allocator(); ",{n}")?;
+        text.extend_from_slice(field.as_bytes())?;
     }
     Ok(())
 }
@@ -60,7 +31,7 @@ fn push_line(
 {
     text.extend_from_slice(word)?;
     push_fields(text, numbers)?;
-    push_legs(text, legs)?;
+    push_fields(text, legs)?;
     text.push(b'\n')?;
     Ok(())
 }
@@ -74,20 +45,24 @@ pub(crate) fn push_plan(
 ) -> Result<(), AllocError>
     ensures { OnOk result (text.new.items ≡ text.old.items ++ plan_line plan verdict legs.now) }
 {
-    let broker = plan.broker as u64;
+    let broker = u64::from(plan.broker);
     let steps = verdict.steps;
     match verdict.standing {
         Standing::Found(mark) => push_line(
             text,
             b"route",
-            &[broker, steps, mark.cost, mark.delay as u64],
+            &[broker, steps, mark.cost, u64::from(mark.delay)],
             legs,
         ),
         Standing::Exhausted => push_line(text, b"none", &[broker, steps], &[]),
-        Standing::Fresh => push_line(text, b"open", &[broker, steps], &[]),
-        Standing::Open => push_line(text, b"open", &[broker, steps], &[]),
+        Standing::Fresh | Standing::Open => push_line(text, b"open", &[broker, steps], &[]),
         Standing::Stopped(why) => {
-            push_line(text, b"stop", &[broker, steps, why.number() as u64], &[])
+            push_line(
+                text,
+                b"stop",
+                &[broker, steps, u64::from(why.number())],
+                &[],
+            )
         }
     }
 }
@@ -106,6 +81,6 @@ pub(crate) fn push_end(text: &mut Vec<u8>, end: Option<Refused>) -> Result<(), A
     let Some(refused) = end else {
         return Ok(());
     };
-    let number = refused.why.number();
-    push_line(text, b"refuse", &[number as u64, refused.line], &[])
+    let number = u64::from(refused.why.number());
+    push_line(text, b"refuse", &[number, refused.line], &[])
 }

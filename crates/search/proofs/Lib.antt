@@ -1,6 +1,6 @@
 mod Insides
 mod Trying
-mod Runs
+pub mod Runs
 mod Opens
 mod Traces
 pub mod Numbering

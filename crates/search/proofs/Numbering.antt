@@ -1,10 +1,10 @@
 -- The refusal of an open has the lowest number that applies; where none applies, it is accepted. Assumes nothing.
-use Rattle.std.proofs.Common.{◌≡◌, ℕ, ◌+◌, ◌<◌, ◌≤◌, Bool, true, false, ◌&&◌, length, get_or, Some, None, Option, sym, refl, subst, arith}
+use Rattle.std.proofs.Common.{◌≡◌, ℕ, ◌+◌, ◌<◌, ◌≤◌, Bool, true, false, ◌&&◌, length, get_or, Some, None, Option, Result, MatchResult, sym, refl, subst, arith}
 use Rattle.network.specs.declared.legs.Leg.{Leg}
 use Rattle.network.specs.declared.refusals.Place.{Place}
 use Rattle.network.specs.declared.refusals.Refusal.{Refusal}
 use Rattle.network.specs.declared.refusals.Refusal.TheVariants as why
-use Rattle.network.specs.Checks.{legs_of, first_failing, unless, unless_leg, sizes_fit, network_refusal}
+use Rattle.network.specs.Checks.{legs_of, first_failing, unless, unless_leg, sizes_fit, network_refusal, answer_by}
 use Rattle.network.specs.Legs.{leg_in_range}
 use Rattle.network.specs.Refusals.{number_of, place_of}
 use Rattle.network.specs.Walks.{no_leg}
@@ -15,7 +15,7 @@ use Rattle.search.specs.Calls.{limit_fits, ends_fit, tables_fit, is_reached, leg
 use Rattle.search.specs.Numbers.{FirstFailure, Applies, size, leg_range, site, room, goal_estimate, leg_estimate, RefusedBy, NoneApplies}
 
 true_not_false : (b : Bool) → b ≡ true → b ≡ false → ⊥
-true_not_false b e f = let z : ◌≡◌ {A = ℕ} 0 1 = cc in omega arith
+true_not_false b e f = cc
 
 module _ (s : Setting) (q : Query) where
   -- Decided by the tests of the numbers from n on: which of them is the lowest that applies, or that none does.
@@ -133,3 +133,7 @@ module _ (s : Setting) (q : Query) where
 
   pub accepted_by_number : open_refusal s q ≡ None → NoneApplies s q
   accepted_by_number e k p a = let d = subst (λ (o : Option Refusal). Decided 8 o) e decided in d k p (above_seven k p a) a
+
+  pub answered_by_number : (o : Option Refusal) (r : Result Unit Refusal) → open_refusal s q ≡ o → r ≡ answer_by o → MatchResult r (λ _. NoneApplies s q) (λ w. RefusedBy s q w)
+  answered_by_number None r e a = subst (λ x. MatchResult x (λ _. NoneApplies s q) (λ w. RefusedBy s q w)) (sym a) (accepted_by_number e)
+  answered_by_number (Some w) r e a = subst (λ x. MatchResult x (λ _. NoneApplies s q) (λ w. RefusedBy s q w)) (sym a) (refused_by_number w e)

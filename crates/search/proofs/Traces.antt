@@ -1,7 +1,9 @@
 -- The loops over the chain of a found label. Assumes nothing.
-use Rattle.std.proofs.Common.{◌≡◌, ℕ, zero, suc, ◌+◌, ◌-◌, ◌<◌, ◌≤◌, Bool, true, false, cond, ◌&&◌, eqb, ltb, List, [], ◌∷◌, ◌++◌, length, drop, set, Some, None, Option, sym, refl, ap, ◌∙◌, append_assoc, arith, length-append}
-use Rattle.std.proofs.lemmas.List.{drop-set, nil_from_length}
-use Rattle.std.proofs.lemmas.Bool.{cond-true, cond-false, and_parts, ltb-true, ne_eqb, eq-eqb, le-ltb, lt-ltb}
+use Rattle.std.proofs.Common.{◌≡◌, ℕ, zero, suc, ◌+◌, ◌-◌, ◌<◌, ◌≤◌, Bool, true, false, cond, eqb, ltb, List, [], ◌∷◌, ◌++◌, length, take, drop, set, Some, None, Option, sym, refl, ap, ◌∙◌, arith}
+use Rattle.std.specs.Bool.{then_some}
+use Rattle.std.proofs.lemmas.List.{drop-set, get_or-take, length-take}
+use Rattle.std.proofs.lemmas.Bool.{cond-true, cond-false, ne_eqb, eq-eqb}
+use Rattle.std.proofs.lemmas.Bool.Decides.{nat_tests}
 use Rattle.worksheet.specs.declared.records.Label.{Label}
 use Rattle.worksheet.specs.declared.records.Origin.{Origin}
 use Rattle.worksheet.specs.Steps.{label_at}
@@ -9,25 +11,28 @@ use Rattle.search.specs.Calls.{origin_inside, origin_at, at_first, by_origin, ch
 use Rattle.search.specs.Parts.{chain_length, laid}
 
 -- an origin that is inside stands before its label
-told : {X : Type 0} (b : Bool) (o : Option X) (x : X) → Some x ≡ cond b o None → (b ≡ true) × (Some x ≡ o)
-told true o x e = (refl, e)
-told false o x e = let z : ◌≡◌ {A = ℕ} 0 1 = cc in absurd (omega arith)
-
-inside_below : (m i : ℕ) (from : Option Origin) (o : Origin) → Some o ≡ origin_inside m i from → o.parent < i
-inside_below m i None o e = let z : ◌≡◌ {A = ℕ} 0 1 = cc in absurd (omega arith)
-inside_below m i (Some f) o e =
-    let parts = told (ltb f.parent i && ltb f.leg m) (Some f) o e in
-    let same : f ≡ o = let h = parts.1 in cc in
-    let below = ltb-true f.parent i (and_parts _ _ parts.0).0 in
-    let parent = ap (λ x. x.parent) same in omega arith
+inside_below : (m i : ℕ) (b : Bool) (from : Option Origin) (o : Origin) → Some o ≡ cond b (origin_inside m i from) None → o.parent < i
+inside_below m i true (Some f) o e = grind (arith, nat_tests)
+inside_below m i true None o e = cc
+inside_below m i false from o e = cc
 
 -- a chain that ends has the legs of the way back to it
-ends_there : (n : ℕ) (js ks : List ℕ) → at_first n js ≡ Some ks → ks ≡ js
-ends_there n js ks e = let h = (told (ltb 0 n) (Some js) ks (sym e)).1 in cc
+ends_there : (b : Bool) (js ks : List ℕ) → cond b (Some js) None ≡ Some ks → ks ≡ js
+ends_there true js ks e = cc
+ends_there false js ks e = cc
+
+-- how long it is, if there is a label
+long_there : (b : Bool) (js : List ℕ) → then_some b (length js) ≡ chain_length (cond b (Some js) None)
+long_there true js = refl
+long_there false js = refl
+
+zero_by : (k : ℕ) → ((k ≡ 0 → ⊥) → ⊥) → k ≡ 0
+zero_by zero h = refl
+zero_by (suc k) h = absurd (h (λ e. omega arith))
 
 module _ (m n : ℕ) (labels : List Label) where
   below : (i : ℕ) (o : Origin) → Some o ≡ origin_at m n labels i → o.parent < i
-  below i o e = inside_below m i (label_at labels i).from o (told (ltb i n) _ o e).1
+  below i o e = inside_below m i (ltb i n) (label_at labels i).from o e
 
   -- the ways of a chain
   chain_on : (fuel i : ℕ) (js : List ℕ) (o : Origin) → (i ≡ 0 → ⊥) → Some o ≡ origin_at m n labels i → chain_from m n labels (suc fuel) i js ≡ chain_from m n labels fuel o.parent (o.leg ∷ js)
@@ -43,22 +48,17 @@ module _ (m n : ℕ) (labels : List Label) where
   chain_ends zero i js e = refl
   chain_ends (suc fuel) i js e = cond-true _ _ _ (eq-eqb _ _ e)
 
-  -- what is found ends with the legs that were read before
-  abbrev Ends : List ℕ → List ℕ → Type 0
-  Ends js ks = (front : List ℕ) × (ks ≡ front ++ js)
+  -- what is found is no shorter than the legs that were read before
+  longer_by : (fuel : ℕ) (b : Bool) (o : Option Origin) (js ks : List ℕ) → ((i : ℕ) (more : List ℕ) → chain_from m n labels fuel i more ≡ Some ks → length more ≤ length ks)
+      → cond b (at_first n js) (by_origin o (λ y. chain_from m n labels fuel y.parent (y.leg ∷ js))) ≡ Some ks → length js ≤ length ks
+  longer_by fuel true o js ks ih e = let all = ap length (ends_there (ltb 0 n) js ks e) in omega arith
+  longer_by fuel false None js ks ih e = cc
+  longer_by fuel false (Some o) js ks ih e = let h = ih o.parent (o.leg ∷ js) e in omega arith
 
-  ends_with_link : (fuel : ℕ) (b : Bool) (o : Option Origin) (js ks : List ℕ) → ((i : ℕ) (more : List ℕ) → chain_from m n labels fuel i more ≡ Some ks → Ends more ks)
-      → cond b (at_first n js) (by_origin o (λ y. chain_from m n labels fuel y.parent (y.leg ∷ js))) ≡ Some ks → Ends js ks
-  ends_with_link fuel true o js ks ih e = ([], ends_there n js ks e)
-  ends_with_link fuel false None js ks ih e = let z : ◌≡◌ {A = ℕ} 0 1 = cc in absurd (omega arith)
-  ends_with_link fuel false (Some o) js ks ih e =
-      let r = ih o.parent (o.leg ∷ js) e in
-      (r.0 ++ (o.leg ∷ []), r.1 ∙ sym (append_assoc r.0 (o.leg ∷ []) js))
-
-  ends_with : (fuel i : ℕ) (js ks : List ℕ) → chain_from m n labels fuel i js ≡ Some ks → Ends js ks
+  longer : (fuel i : ℕ) (js ks : List ℕ) → chain_from m n labels fuel i js ≡ Some ks → length js ≤ length ks
   unfolding chain_from
-  ends_with zero i js ks e = ([], ends_there n js ks e)
-  ends_with (suc fuel) i js ks e = ends_with_link fuel (eqb i 0) (origin_at m n labels i) js ks (λ j more h. ends_with fuel j more ks h) e
+  longer zero i js ks e = let all = ap length (ends_there (ltb 0 n) js ks e) in omega arith
+  longer (suc fuel) i js ks e = longer_by fuel (eqb i 0) (origin_at m n labels i) js ks (λ j more h. longer fuel j more ks h) e
 
   abbrev whole : ℕ → Option (List ℕ)
   whole found = chain_from m n labels found found []
@@ -87,11 +87,8 @@ module _ (m n : ℕ) (labels : List Label) where
     pub count_fails : (at ≡ 0 → ⊥) → None ≡ origin_at m n labels at → None ≡ chain_length (whole found)
     count_fails some e = ap chain_length (sym (ap (λ j. chain_from m n labels j at so_far.legs) (one_less some) ∙ chain_fails (found - (count + 1)) at so_far.legs some e) ∙ so_far.same)
 
-    pub count_without_labels : at ≡ 0 → n ≡ 0 → None ≡ chain_length (whole found)
-    count_without_labels first none = ap chain_length (sym (chain_ends (found - count) at so_far.legs first ∙ cond-false _ _ _ (le-ltb 0 n (omega arith))) ∙ so_far.same)
-
-    pub count_ends : at ≡ 0 → (n ≡ 0 → ⊥) → Some count ≡ chain_length (whole found)
-    count_ends first some = ap Some (sym so_far.long) ∙ ap chain_length (sym (chain_ends (found - count) at so_far.legs first ∙ cond-true _ _ _ (lt-ltb 0 n (omega arith))) ∙ so_far.same)
+    pub count_ends : at ≡ 0 → then_some (ltb 0 n) count ≡ chain_length (whole found)
+    count_ends first = ap (then_some (ltb 0 n)) (sym so_far.long) ∙ long_there (ltb 0 n) so_far.legs ∙ ap chain_length (sym (chain_ends (found - count) at so_far.legs first) ∙ so_far.same)
 
   -- the last of `count` legs stand in the buffer from `place` on, and lead from the label `at` to the label `found`
   pub record Laying (found at place count : ℕ) (buffer before : List ℕ) : Type 0 where
@@ -101,26 +98,14 @@ module _ (m n : ℕ) (labels : List Label) where
     pub same : chain_from m n labels (found - length legs) at legs ≡ whole found
     pub written : drop place buffer ≡ legs ++ drop count before
 
-  module _ (found at place count : ℕ) (buffer before : List ℕ) (so_far : Laying found at place count buffer before) (counted : Some count ≡ chain_length (whole found)) where
-    abbrev Chain : Type 0
-    Chain = (ks : List ℕ) × (whole found ≡ Some ks) × (length ks ≡ count)
-
-    chain_of : (o : Option (List ℕ)) → whole found ≡ o → Some count ≡ chain_length o → Chain
-    chain_of None e c = let z : ◌≡◌ {A = ℕ} 0 1 = cc in absurd (omega arith)
-    chain_of (Some ks) e c = (ks, e, cc)
-
-    chain : Chain
-    chain = chain_of (whole found) refl counted
-
-    not_first : 0 < place → at ≡ 0 → ⊥
-    not_first more first =
-        let ks = chain.0 in
-        let e : at_first n so_far.legs ≡ Some ks = sym (chain_ends (found - length so_far.legs) at so_far.legs first) ∙ so_far.same ∙ chain.1 in
-        let all = ap length (ends_there n so_far.legs ks e) in
-        omega (arith, all, chain.2, so_far.long)
-
-    one_fewer : 0 < place → found - length so_far.legs ≡ suc (found - suc (length so_far.legs))
-    one_fewer more = let some = not_first more in let f = so_far.fuel in omega arith
+  module _ (found at place count : ℕ) (buffer before : List ℕ) (so_far : Laying found at place count buffer before) where
+    -- one leg more
+    link : (o : Origin) → Some o ≡ origin_at m n labels at → chain_from m n labels (found - suc (length so_far.legs)) o.parent (o.leg ∷ so_far.legs) ≡ whole found
+    link o e =
+        let lower = below at o e in
+        let f = so_far.fuel in
+        let one_fewer : found - length so_far.legs ≡ suc (found - suc (length so_far.legs)) = omega arith in
+        sym (ap (λ j. chain_from m n labels j at so_far.legs) one_fewer ∙ chain_on (found - suc (length so_far.legs)) at so_far.legs o (λ first. omega arith) e) ∙ so_far.same
 
     pub lay_on : (o : Origin) → 0 < place → place ≤ length buffer → Some o ≡ origin_at m n labels at → Laying found o.parent (place - 1) count (set buffer (place - 1) o.leg) before
     lay_on o more fits e =
@@ -131,22 +116,59 @@ module _ (m n : ℕ) (labels : List Label) where
           legs = o.leg ∷ so_far.legs;
           long = let l = so_far.long in omega arith;
           fuel = let f = so_far.fuel in omega arith;
-          same = sym (ap (λ j. chain_from m n labels j at so_far.legs) (one_fewer more) ∙ chain_on (found - suc (length so_far.legs)) at so_far.legs o (not_first more) e) ∙ so_far.same;
+          same = link o e;
           written = drop-set buffer (place - 1) o.leg inside ∙ ap (λ k. o.leg ∷ drop k buffer) next ∙ ap (λ js. o.leg ∷ js) so_far.written;
         }
 
-    pub lay_never : 0 < place → None ≡ origin_at m n labels at → ⊥
-    lay_never more e =
-        let none : None ≡ whole found = sym (ap (λ j. chain_from m n labels j at so_far.legs) (one_fewer more) ∙ chain_fails (found - suc (length so_far.legs)) at so_far.legs (not_first more) e) ∙ so_far.same in
-        let clash : None ≡ Some chain.0 = none ∙ chain.1 in
-        let z : ◌≡◌ {A = ℕ} 0 1 = cc in omega arith
+    module _ (counted : Some count ≡ chain_length (whole found)) where
+      abbrev Chain : Type 0
+      Chain = (ks : List ℕ) × (whole found ≡ Some ks) × (length ks ≡ count)
 
-    pub lay_ends : place ≡ 0 → buffer ≡ laid (whole found) before
-    lay_ends first =
-        let ks = chain.0 in
-        let ends = ends_with (found - length so_far.legs) at so_far.legs ks (so_far.same ∙ chain.1) in
-        let sum : length ks ≡ length ends.0 + length so_far.legs = ap length ends.1 ∙ length-append ends.0 so_far.legs in
-        let empty : ends.0 ≡ [] = nil_from_length ends.0 (omega (arith, sum, chain.2, so_far.long)) in
-        let all : ks ≡ so_far.legs = ends.1 ∙ ap (λ js. js ++ so_far.legs) empty in
-        let start : buffer ≡ so_far.legs ++ drop count before = ap (λ k. drop k buffer) (sym first) ∙ so_far.written in
-        start ∙ ap (λ js. js ++ drop count before) (sym all) ∙ ap (λ k. ks ++ drop k before) (sym chain.2) ∙ ap (λ o. laid o before) (sym chain.1)
+      chain_of : (o : Option (List ℕ)) → whole found ≡ o → Some count ≡ chain_length o → Chain
+      chain_of None e c = cc
+      chain_of (Some ks) e c = (ks, e, cc)
+
+      chain : Chain
+      chain = chain_of (whole found) refl counted
+
+      -- there is room for each leg
+      pub lay_fits : (o : Origin) → Some o ≡ origin_at m n labels at → 0 < place
+      lay_fits o e =
+          let long = longer (found - suc (length so_far.legs)) o.parent (o.leg ∷ so_far.legs) chain.0 (link o e ∙ chain.1) in
+          omega (arith, long, chain.2, so_far.long)
+
+      -- the loop ends at the first label
+      ends_first : None ≡ origin_at m n labels at → at ≡ 0 → buffer ≡ laid (whole found) before
+      ends_first e first =
+          let all : chain.0 ≡ so_far.legs = ends_there (ltb 0 n) so_far.legs chain.0 (sym (chain_ends (found - length so_far.legs) at so_far.legs first) ∙ so_far.same ∙ chain.1) in
+          let none : place ≡ 0 = omega (arith, ap length all, chain.2, so_far.long) in
+          ap (λ k. drop k buffer) (sym none) ∙ so_far.written ∙ ap (λ js. js ++ drop count before) (sym all) ∙ ap (λ k. chain.0 ++ drop k before) (sym chain.2) ∙ ap (λ o. laid o before) (sym chain.1)
+
+      never_fails : None ≡ origin_at m n labels at → (at ≡ 0 → ⊥) → ⊥
+      never_fails e some =
+          let f = so_far.fuel in
+          let one_fewer : found - length so_far.legs ≡ suc (found - suc (length so_far.legs)) = omega arith in
+          let none : None ≡ whole found = sym (ap (λ j. chain_from m n labels j at so_far.legs) one_fewer ∙ chain_fails (found - suc (length so_far.legs)) at so_far.legs some e) ∙ so_far.same in
+          let clash : None ≡ Some chain.0 = none ∙ chain.1 in
+          cc
+
+      pub lay_ends : None ≡ origin_at m n labels at → buffer ≡ laid (whole found) before
+      lay_ends e = ends_first e (zero_by at (never_fails e))
+
+-- a chain does not look beyond the first n labels
+module _ (m n : ℕ) (labels : List Label) (recorded : n ≤ length labels) where
+  origin_front : (i : ℕ) → origin_at m n (take n labels) i ≡ origin_at m n labels i
+  origin_front i = grind (arith, nat_tests, get_or-take)
+
+  chain_front : (fuel i : ℕ) (js : List ℕ) → chain_from m n (take n labels) fuel i js ≡ chain_from m n labels fuel i js
+  unfolding chain_from
+  chain_front zero i js = refl
+  chain_front (suc fuel) i js = λ j. cond (eqb i 0) (at_first n js) (by_origin (origin_front i j) (λ o. chain_front fuel o.parent (o.leg ∷ js) j))
+
+  pub whole_front : (found : ℕ) → chain_from m (length (take n labels)) (take n labels) found found [] ≡ chain_from m n labels found found []
+  whole_front found =
+      let long : length (take n labels) ≡ n = grind (arith, length-take) in
+      ap (λ k. chain_from m k (take n labels) found found []) long ∙ chain_front found found []
+
+-- what `trace` needs of the recorded labels
+pub ruleset front_chains = (nat_tests, whole_front)

@@ -17,6 +17,7 @@ use Rattle.worksheet.specs.declared.records.Phase.TheVariants as phase
 use Rattle.worksheet.specs.declared.records.Query.{Query}
 use Rattle.worksheet.specs.Problem.{Setting, Problem, problem}
 use Rattle.worksheet.specs.Steps.{State, is_open, label_at, opened, step}
+use Rattle.search.specs.declared.lent.Lent.{Lent}
 use Rattle.search.specs.declared.record.Search.{Search}
 
 -- What the calls alter: the question, and the state of the search for it.
@@ -31,6 +32,10 @@ worksheet r labels least bag = record { query = r.query; state = record { labels
 -- What no call alters.
 abbrev pub setting : Network → List Leg → Terms → (ℕ → Option Bound) → List Label → List ℕ → ℕ → Setting
 setting net table terms at labels least room = record { net = net; table = table; terms = terms; at = at; labels = length labels; records = length least; capacity = room }
+
+-- The same, of what a call is lent to read only, by what a tariff and an estimate mean.
+abbrev pub setting_of : {T E : Type 0} → (T → Terms) → (E → ℕ → Option Bound) → Lent T E → List Label → List ℕ → ℕ → Setting
+setting_of terms at lent labels least room = setting lent.network.now lent.table.now (terms lent.tariff.now) (at lent.estimate.now) labels least room
 
 -- The problem that is being worked on.
 abbrev pub problem_of : Setting → Worksheet → Problem

@@ -1,8 +1,10 @@
 -- The decisions of the calls, one by one, as the code makes them. Assumes nothing.
-use Rattle.std.specs.Prelude.{ℕ, suc, ◌+◌, Bool, true, cond, ◌&&◌, List, [], ◌∷◌, ◌++◌, length, drop, Some, None, Option, ◌==◌, nat_le, nat_lt, slice_index, slice_set}
+use Rattle.std.specs.Prelude.{ℕ, suc, ◌+◌, Bool, true, cond, ◌&&◌, List, ◌++◌, length, drop, Some, None, Ok, Err, Option, Result, ◌==◌, nat_le, nat_lt, slice_index, slice_set}
+use Rattle.std.specs.List.{list_all}
 use Rattle.network.specs.declared.estimates.Bound.{Bound}
 use Rattle.network.specs.declared.legs.Leg.{Leg}
 use Rattle.network.specs.declared.legs.Network.{Network}
+use Rattle.network.specs.declared.refusals.Stop.{Stop}
 use Rattle.network.specs.declared.refusals.Stop.TheVariants.{LabelsUsed, QueueFull}
 use Rattle.network.specs.Checks.{legs_of}
 use Rattle.network.specs.Walks.{Graph}
@@ -26,19 +28,14 @@ leads_inside records leg = nat_lt leg.head records && nat_le leg.medium 7
 abbrev pub leg_inside : ℕ → ℕ → Leg → Bool
 leg_inside records site leg = cond (leg.tail == site) (leads_inside records leg) true
 
--- Every leg passes a test.
-abbrev pub every : (Leg → Bool) → List Leg → Bool
-every passes [] = true
-every passes (leg ∷ more) = passes leg && every passes more
-
 -- The leg table holds all legs, and each of them is inside, whatever its tail.
 abbrev pub all_inside : ℕ → Network → List Leg → Bool
-all_inside records net table = nat_le net.legs (length table) && every (leads_inside records) (legs_of net table)
+all_inside records net table = nat_le net.legs (length table) && list_all (leads_inside records) (legs_of net table)
 
 -- Label i, unless a number that a step with it uses leads outside its table.
 abbrev pub label_inside : ℕ → Network → List Leg → ℕ → List Label → ℕ → Option Label
 label_inside records net table count labels i =
-    cond ((nat_le net.legs (length table) && (nat_lt i count && nat_lt i (length labels))) && (nat_lt (label_at labels i).site records && every (leg_inside records (label_at labels i).site) (legs_of net table)))
+    cond ((nat_le net.legs (length table) && (nat_lt i count && nat_lt i (length labels))) && (nat_lt (label_at labels i).site records && list_all (leg_inside records (label_at labels i).site) (legs_of net table)))
     (Some (label_at labels i)) None
 
 -- The label that a leg leads to.
@@ -76,10 +73,10 @@ added capacity d s =
     (cond (nat_lt (length s.bag) capacity) (written d s) (in_phase (Stopped QueueFull) s))
     (in_phase (Stopped LabelsUsed) s)
 
--- One leg tried.
-abbrev pub tried : ℕ → Option Due → State → State
-tried capacity None s = s
-tried capacity (Some d) s = added capacity d s
+-- A worksheet with what was answered: the search stops where the answer says why.
+abbrev pub settled : Result Unit Stop → Worksheet → Worksheet
+settled (Ok u) w = w
+settled (Err why) w = with_state w (in_phase (Stopped why) w.state)
 
 -- How long a chain is.
 abbrev pub chain_length : Option (List ℕ) → Option ℕ

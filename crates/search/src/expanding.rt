@@ -1,11 +1,13 @@
 // The expansion of a label: each leg from its site is tried.
 ghost use Rattle.std.specs.Prelude.{◌≡◌, ◌≤◌, true, [], length};
+ghost use Rattle.std.specs.List.{list_all};
 ghost use Rattle.network.specs.Checks.{legs_of};
 ghost use Rattle.network.specs.Walks.{graph};
 ghost use Rattle.worksheet.specs.Steps.{expand as expand_of, is_open};
-ghost use Rattle.search.specs.Calls.{setting, worksheet, problem_of};
-ghost use Rattle.search.specs.Parts.{due_of, leg_inside, every, added, tried, with_state};
+ghost use Rattle.search.specs.Calls.{setting_of, worksheet, problem_of};
+ghost use Rattle.search.specs.Parts.{due_of, leg_inside, added, settled, with_state};
 
+use crate::lent::Lent;
 use crate::record::Search;
 use network::estimates::Estimate;
 use network::legs::*;
@@ -15,6 +17,13 @@ use queue::entry::Entry;
 use queue::interface::Queue;
 use worksheet::records::*;
 
+// A label that was taken, with its number.
+#[derive(Clone, Copy)]
+pub(crate) struct Taken {
+    pub number: usize,
+    pub label: Label,
+}
+
 // A label that is due, with its estimated cost.
 #[derive(Clone, Copy)]
 pub(crate) struct Due {
@@ -23,33 +32,32 @@ pub(crate) struct Due {
 }
 
 impl Search {
-    // The label that leg `number` leads to from the label `from`, unless the leg is skipped: it does not leave the label's
-    // site, its head is cut off, the limit would be exceeded, or the new label is dominated.
+    // The label that leg `number` leads to from the label that was taken, unless the leg is skipped: it does not leave the
+    // label's site, its head is cut off, the limit would be exceeded, or the new label is dominated.
     fn due<T: Tariff, E: Estimate>(
         &self,
-        parent: usize,
-        from: Label,
+        from: Taken,
         number: u16,
-        leg: Leg,
+        leg: &Leg,
+        lent: &Lent<T, E>,
         least: &[u32],
-        tariff: &T,
-        estimate: &E,
     ) -> Option<Due>
-        requires { leg_inside (length least.now) from.site leg ≡ true }
-        ensures { result ≡ due_of (graph (T.terms tariff.now) []) (E.at estimate.now) self.now.query.limit least.now parent from number leg }
+        requires { leg_inside (length least.now) from.label.site leg.now ≡ true }
+        ensures { result ≡ due_of (graph (T.terms lent.now.tariff.now) []) (E.at lent.now.estimate.now) self.now.query.limit least.now from.number from.label number leg.now }
     {
-        if leg.tail != from.site {
+        if leg.tail != from.label.site {
             return None;
         }
-        let bound = estimate.at(leg.head)?;
-        let delay = from.mark.delay as u64 + leg.delay();
+        let bound = lent.estimate.at(leg.head)?;
+        let delay = from.label.mark.delay as u64 + leg.delay();
         if delay + bound.delay as u64 > self.query.limit as u64 {
             return None;
         }
         if delay >= least[leg.head as usize] as u64 {
             return None;
         }
-        let cost = tariff.join(from.mark.cost, tariff.price(leg.fee, leg.grade));
+        let price = lent.tariff.price(leg.fee, leg.grade);
+        let cost = lent.tariff.join(from.label.mark.cost, price);
         let label = Label {
             mark: Mark {
                 cost,
@@ -57,30 +65,29 @@ impl Search {
             },
             site: leg.head,
             from: Some(Origin {
-                parent,
+                parent: from.number,
                 leg: number,
             }),
         };
         Some(Due {
             label,
-            estimate: tariff.join(cost, bound.cost),
+            estimate: lent.tariff.join(cost, bound.cost),
         })
     }
 
-    // Writes a label that is due and puts its entry, or stops the search where there is no room for it.
+    // Writes a label that is due and puts its entry. Where one of the two has no room, it answers why the search stops.
     pub(crate) fn add<Q: Queue>(
         &mut self,
         due: Due,
         labels: &mut [Label],
-        least: &[u32],
         queue: &mut Q,
-    )
-        ensures after { worksheet self.new labels.new least.now (Q.bag queue.new) ≡ with_state (worksheet self.old labels.old least.now (Q.bag queue.old)) (added (Q.room queue.old) due (worksheet self.old labels.old least.now (Q.bag queue.old)).state) }
+    ) -> Result<(), Stop>
+        ensures after { settled result (worksheet self.new labels.new [] (Q.bag queue.new)) ≡ with_state (worksheet self.old labels.old [] (Q.bag queue.old)) (added (Q.room queue.old) due (worksheet self.old labels.old [] (Q.bag queue.old)).state) }
+        ensures same_phase { self.new.phase ≡ self.old.phase }
         ensures same_room { Q.room queue.new ≡ Q.room queue.old }
     {
         if self.count >= labels.len() {
-            self.phase = Phase::Stopped(Stop::LabelsUsed);
-            return;
+            return Err(Stop::LabelsUsed);
         }
         let entry = Entry {
             estimate: due.estimate,
@@ -88,66 +95,35 @@ impl Search {
             delay: due.label.mark.delay,
             label: self.count,
         };
-        match queue.put(entry) {
-            Ok(()) => {
-                labels[self.count] = due.label;
-                self.count += 1;
-            }
-            Err(_) => {
-                self.phase = Phase::Stopped(Stop::QueueFull);
-            }
-        }
+        queue.put(entry).map_err(|_| Stop::QueueFull)?;
+        labels[self.count] = due.label;
+        self.count += 1;
+        Ok(())
     }
 
-    // Tries one leg.
-    fn try_leg<Q: Queue, T: Tariff, E: Estimate>(
-        &mut self,
-        parent: usize,
-        from: Label,
-        number: u16,
-        leg: Leg,
-        labels: &mut [Label],
-        least: &[u32],
-        queue: &mut Q,
-        tariff: &T,
-        estimate: &E,
-    )
-        requires { leg_inside (length least.now) from.site leg ≡ true }
-        ensures after { worksheet self.new labels.new least.now (Q.bag queue.new) ≡ with_state (worksheet self.old labels.old least.now (Q.bag queue.old)) (tried (Q.room queue.old) (due_of (graph (T.terms tariff.now) []) (E.at estimate.now) self.old.query.limit least.now parent from number leg) (worksheet self.old labels.old least.now (Q.bag queue.old)).state) }
-        ensures same_room { Q.room queue.new ≡ Q.room queue.old }
-    {
-        if let Some(due) = self.due(parent, from, number, leg, least, tariff, estimate) {
-            self.add(due, labels, least, queue);
-        }
-    }
-
-    // Tries each leg from the label's site in order, until one stops the search.
+    // Tries each leg from the label's site in order, until there is no room for a label that is due: it answers why the
+    // search stops.
     pub(crate) fn expand<Q: Queue, T: Tariff, E: Estimate>(
         &mut self,
-        parent: usize,
-        from: Label,
-        network: &Network,
-        table: &[Leg],
+        from: Taken,
+        lent: &Lent<T, E>,
         labels: &mut [Label],
         least: &[u32],
         queue: &mut Q,
-        tariff: &T,
-        estimate: &E,
-    )
+    ) -> Result<(), Stop>
         requires going { is_open self.old.phase ≡ true }
-        requires whole { network.now.legs ≤ length table.now }
-        requires inside { every (leg_inside (length least.now) from.site) (legs_of network.now table.now) ≡ true }
-        ensures after { worksheet self.new labels.new least.now (Q.bag queue.new) ≡ with_state (worksheet self.old labels.old least.now (Q.bag queue.old)) (expand_of (problem_of (setting network.now table.now (T.terms tariff.now) (E.at estimate.now) labels.old least.now (Q.room queue.old)) (worksheet self.old labels.old least.now (Q.bag queue.old))) parent from 0 (legs_of network.now table.now) (worksheet self.old labels.old least.now (Q.bag queue.old)).state) }
+        requires whole { lent.now.network.now.legs ≤ length lent.now.table.now }
+        requires inside { list_all (leg_inside (length least.now) from.label.site) (legs_of lent.now.network.now lent.now.table.now) ≡ true }
+        ensures after { settled result (worksheet self.new labels.new least.now (Q.bag queue.new)) ≡ with_state (worksheet self.old labels.old least.now (Q.bag queue.old)) (expand_of (problem_of (setting_of T.terms E.at lent.now labels.old least.now (Q.room queue.old)) (worksheet self.old labels.old least.now (Q.bag queue.old))) from.number from.label 0 (legs_of lent.now.network.now lent.now.table.now) (worksheet self.old labels.old least.now (Q.bag queue.old)).state) }
+        ensures same_phase { self.new.phase ≡ self.old.phase }
         ensures same_room { Q.room queue.new ≡ Q.room queue.old }
     {
-        let legs = &table[0..network.legs as usize];
+        let legs = &lent.table[..lent.network.legs as usize];
         for (i, leg) in legs.iter().enumerate() {
-            self.try_leg(
-                parent, from, i as u16, *leg, labels, least, queue, tariff, estimate,
-            );
-            if !self.is_open() {
-                return;
+            if let Some(due) = self.due(from, i as u16, leg, lent, least) {
+                self.add(due, labels, queue)?;
             }
         }
+        Ok(())
     }
 }

@@ -1,7 +1,8 @@
 // Whether a number that a step uses leads outside its table.
 ghost use Rattle.std.specs.Prelude.{◌≡◌};
-ghost use Rattle.search.specs.Parts.{leads_inside, leg_inside, every, all_inside, label_inside};
+ghost use Rattle.search.specs.Parts.{leads_inside, leg_inside, all_inside, label_inside};
 
+use crate::lent::Lent;
 use crate::record::Search;
 use network::legs::*;
 use worksheet::records::*;
@@ -20,67 +21,36 @@ fn leg_inside(leg: &Leg, site: u16, records: usize) -> bool
     leg.tail != site || leads_inside(leg, records)
 }
 
-// Every leg is inside, whatever its tail.
-fn legs_inside(legs: &[Leg], records: usize) -> bool
-    ensures { result ≡ every (leads_inside records) legs.now }
-{
-    for leg in legs {
-        if !leads_inside(leg, records) {
-            return false;
-        }
-    }
-    true
-}
-
-// Every leg from the site is inside.
-fn site_inside(legs: &[Leg], site: u16, records: usize) -> bool
-    ensures { result ≡ every (leg_inside records site) legs.now }
-{
-    for leg in legs {
-        if !leg_inside(leg, site, records) {
-            return false;
-        }
-    }
-    true
-}
-
 // The leg table holds all legs, and each of them is inside. Where this is so, no step needs to ask about the legs of its site.
 pub(crate) fn all_inside(network: &Network, table: &[Leg], records: usize) -> bool
     ensures { result ≡ all_inside records network.now table.now }
 {
     let n = network.legs as usize;
-    n <= table.len() && legs_inside(&table[0..n], records)
+    n <= table.len() && table[..n].iter().all(|leg| leads_inside(leg, records))
 }
 
 impl Search {
     // Label `i`, unless a number that a step with it uses leads outside its table. `sound` says whether all legs are inside,
     // so that one answer serves all steps of a call.
-    pub(crate) fn label_inside(
+    pub(crate) fn label_inside<T, E>(
         &self,
         i: usize,
         sound: bool,
-        network: &Network,
-        table: &[Leg],
+        lent: &Lent<T, E>,
         labels: &[Label],
         records: usize,
     ) -> Option<Label>
-        requires { sound ≡ all_inside records network.now table.now }
-        ensures { result ≡ label_inside records network.now table.now self.now.count labels.now i }
+        requires { sound ≡ all_inside records lent.now.network.now lent.now.table.now }
+        ensures { result ≡ label_inside records lent.now.network.now lent.now.table.now self.now.count labels.now i }
     {
-        let n = network.legs as usize;
-        if n > table.len() || i >= self.count || i >= labels.len() {
+        if i >= self.count {
             return None;
         }
-        let label = labels[i];
-        if label.site as usize >= records {
+        let label = *labels.get(i)?;
+        let legs = lent.table.get(..lent.network.legs as usize)?;
+        if usize::from(label.site) >= records {
             return None;
         }
-        if sound {
-            return Some(label);
-        }
-        if !site_inside(&table[0..n], label.site, records) {
-            return None;
-        }
-        Some(label)
+        (sound || legs.iter().all(|leg| leg_inside(leg, label.site, records))).then_some(label)
     }
 }

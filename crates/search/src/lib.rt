@@ -3,6 +3,7 @@
 
 mod expanding;
 mod inside;
+mod lent;
 mod opening;
 pub mod record;
 mod running;

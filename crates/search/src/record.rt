@@ -1,6 +1,6 @@
 // The search record, and what it tells.
 ghost use Rattle.std.specs.Prelude.{◌≡◌};
-ghost use Rattle.search.specs.Record.{fresh, is_open_in, verdict_of};
+ghost use Rattle.search.specs.Record.{fresh, is_open_in, standing_of, verdict_of};
 
 use network::refusals::Stop;
 use worksheet::records::*;
@@ -32,17 +32,28 @@ pub struct Verdict {
     pub steps: u64,
 }
 
+// A phase, without the number of the label that was found.
+impl From<Phase> for Standing {
+    ghost from_gives = { λ phase standing. standing ≡ standing_of phase };
+
+    fn from(phase: Phase) -> Standing {
+        match phase {
+            Phase::Fresh => Standing::Fresh,
+            Phase::Open => Standing::Open,
+            Phase::Found(_, mark) => Standing::Found(mark),
+            Phase::Exhausted => Standing::Exhausted,
+            Phase::Stopped(why) => Standing::Stopped(why),
+        }
+    }
+}
+
 impl Search {
     // A search record as it is made.
     pub fn new() -> Search
         ensures { result ≡ fresh }
     {
         Search {
-            query: Query {
-                start: 0,
-                goal: 0,
-                limit: 0,
-            },
+            query: Query::default(),
             phase: Phase::Fresh,
             count: 0,
             steps: 0,
@@ -53,25 +64,15 @@ impl Search {
     pub(crate) fn is_open(&self) -> bool
         ensures { result ≡ is_open_in self.now }
     {
-        match self.phase {
-            Phase::Open => true,
-            _ => false,
-        }
+        matches!(self.phase, Phase::Open)
     }
 
     // What the search has come to. It is never refused.
     pub fn verdict(&self) -> Verdict
         ensures { result ≡ verdict_of self.now }
     {
-        let standing = match self.phase {
-            Phase::Fresh => Standing::Fresh,
-            Phase::Open => Standing::Open,
-            Phase::Found(_, mark) => Standing::Found(mark),
-            Phase::Exhausted => Standing::Exhausted,
-            Phase::Stopped(why) => Standing::Stopped(why),
-        };
         Verdict {
-            standing,
+            standing: self.phase.into(),
             steps: self.steps,
         }
     }

@@ -3,6 +3,7 @@ ghost use Rattle.std.specs.Prelude.{◌≡◌};
 ghost use Rattle.search.specs.Calls.{setting, worksheet, outcome, advancing};
 
 use crate::inside::all_inside;
+use crate::lent::Lent;
 use crate::record::Search;
 use network::estimates::Estimate;
 use network::legs::*;
@@ -32,14 +33,18 @@ impl Search {
             return Err(Refusal::NotOpen);
         }
         let sound = all_inside(network, table, least.len());
+        let lent = Lent {
+            network,
+            table,
+            tariff,
+            estimate,
+        };
         let mut made = 0;
         let steps = loop {
             if made == allowance || !self.is_open() {
                 break made;
             }
-            self.step(
-                sound, network, table, labels, least, queue, tariff, estimate,
-            );
+            self.step(sound, &lent, labels, least, queue);
             made += 1;
         };
         Ok(steps)

@@ -1,9 +1,11 @@
 // One step of a search: a label is taken, and dropped, found to end at the goal, or expanded.
 ghost use Rattle.std.specs.Prelude.{◌≡◌, true, length};
 ghost use Rattle.worksheet.specs.Steps.{step as step_of, is_open};
-ghost use Rattle.search.specs.Calls.{setting, worksheet, problem_of};
+ghost use Rattle.search.specs.Calls.{setting_of, worksheet, problem_of};
 ghost use Rattle.search.specs.Parts.{all_inside, with_state};
 
+use crate::expanding::Taken;
+use crate::lent::Lent;
 use crate::record::Search;
 use network::estimates::Estimate;
 use network::legs::*;
@@ -17,17 +19,14 @@ impl Search {
     pub(crate) fn step<Q: Queue, T: Tariff, E: Estimate>(
         &mut self,
         sound: bool,
-        network: &Network,
-        table: &[Leg],
+        lent: &Lent<T, E>,
         labels: &mut [Label],
         least: &mut [u32],
         queue: &mut Q,
-        tariff: &T,
-        estimate: &E,
     )
         requires going { is_open self.old.phase ≡ true }
-        requires asked { sound ≡ all_inside (length least.old) network.now table.now }
-        ensures after { worksheet self.new labels.new least.new (Q.bag queue.new) ≡ with_state (worksheet self.old labels.old least.old (Q.bag queue.old)) (step_of (problem_of (setting network.now table.now (T.terms tariff.now) (E.at estimate.now) labels.old least.old (Q.room queue.old)) (worksheet self.old labels.old least.old (Q.bag queue.old))) (worksheet self.old labels.old least.old (Q.bag queue.old)).state) }
+        requires asked { sound ≡ all_inside (length least.old) lent.now.network.now lent.now.table.now }
+        ensures after { worksheet self.new labels.new least.new (Q.bag queue.new) ≡ with_state (worksheet self.old labels.old least.old (Q.bag queue.old)) (step_of (problem_of (setting_of T.terms E.at lent.now labels.old least.old (Q.room queue.old)) (worksheet self.old labels.old least.old (Q.bag queue.old))) (worksheet self.old labels.old least.old (Q.bag queue.old)).state) }
         ensures same_room { Q.room queue.new ≡ Q.room queue.old }
     {
         self.steps = self.steps.saturating_add(1);
@@ -35,8 +34,7 @@ impl Search {
             self.phase = Phase::Exhausted;
             return;
         };
-        let Some(from) = self.label_inside(first.label, sound, network, table, labels, least.len())
-        else {
+        let Some(from) = self.label_inside(first.label, sound, lent, labels, least.len()) else {
             self.phase = Phase::Stopped(Stop::Outside);
             return;
         };
@@ -48,16 +46,12 @@ impl Search {
             self.phase = Phase::Found(first.label, from.mark);
             return;
         }
-        self.expand(
-            first.label,
-            from,
-            network,
-            table,
-            labels,
-            least,
-            queue,
-            tariff,
-            estimate,
-        );
+        let taken = Taken {
+            number: first.label,
+            label: from,
+        };
+        if let Err(why) = self.expand(taken, lent, labels, least, queue) {
+            self.phase = Phase::Stopped(why);
+        }
     }
 }

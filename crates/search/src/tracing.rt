@@ -8,53 +8,38 @@ use network::legs::*;
 use network::refusals::Refusal;
 use worksheet::records::*;
 
-// The origin of label `i`, unless it is absent or leads outside the first `n` labels or the first `m` legs.
-fn origin(labels: &[Label], i: usize, n: usize, m: usize) -> Option<Origin>
-    requires { n ≤ length labels.now }
-    ensures { result ≡ origin_at m n labels.now i }
+// The origin of label `i`, unless it is absent or leads outside the labels or the first `m` legs.
+fn origin(labels: &[Label], i: usize, m: usize) -> Option<Origin>
+    ensures { result ≡ origin_at m (length labels.now) labels.now i }
 {
-    if i >= n {
-        return None;
-    }
-    let origin = labels[i].from?;
-    if origin.parent < i && (origin.leg as usize) < m {
-        Some(origin)
-    } else {
-        None
-    }
+    labels
+        .get(i)?
+        .from
+        .filter(|origin| origin.parent < i && (origin.leg as usize) < m)
 }
 
 // The number of legs from label 0 to the label `found`, unless the chain leads outside.
-fn chain_length(labels: &[Label], found: usize, n: usize, m: usize) -> Option<usize>
-    requires { n ≤ length labels.now }
-    ensures { result ≡ length_of (chain_from m n labels.now found found []) }
+fn chain_length(labels: &[Label], found: usize, m: usize) -> Option<usize>
+    ensures { result ≡ length_of (chain_from m (length labels.now) labels.now found found []) }
 {
     let mut at = found;
     let mut legs = 0;
     while at != 0 {
-        let origin = origin(labels, at, n, m)?;
-        at = origin.parent;
+        at = origin(labels, at, m)?.parent;
         legs += 1;
     }
-    if n == 0 {
-        return None;
-    }
-    Some(legs)
+    (!labels.is_empty()).then_some(legs)
 }
 
 // Writes the `legs` leg numbers of the chain to the label `found`, the last first.
-fn write_chain(labels: &[Label], found: usize, n: usize, m: usize, legs: usize, buffer: &mut [u16])
-    requires recorded { n ≤ length labels.now }
-    requires long { Some legs ≡ length_of (chain_from m n labels.now found found []) }
+fn write_chain(labels: &[Label], found: usize, m: usize, legs: usize, buffer: &mut [u16])
+    requires long { Some legs ≡ length_of (chain_from m (length labels.now) labels.now found found []) }
     requires fits { legs ≤ length buffer.old }
-    ensures { buffer.new ≡ laid (chain_from m n labels.now found found []) buffer.old }
+    ensures { buffer.new ≡ laid (chain_from m (length labels.now) labels.now found found []) buffer.old }
 {
     let mut at = found;
     let mut place = legs;
-    while place > 0 {
-        let Some(origin) = origin(labels, at, n, m) else {
-            return;
-        };
+    while let Some(origin) = origin(labels, at, m) {
         place -= 1;
         buffer[place] = origin.leg;
         at = origin.parent;
@@ -65,6 +50,7 @@ impl Search {
     // Writes the leg numbers of the found walk, first to last, at the buffer's start and answers how many there are. It is
     // refused where nothing was found, where a number of the labels' chain leads outside its table, or where the buffer is
     // too short; then the buffer stays as it was.
+    #[tactic(auto, using(crate::proofs::Traces::front_chains))]
     pub fn trace(
         &self,
         network: &Network,
@@ -77,15 +63,13 @@ impl Search {
         let Phase::Found(found, _) = self.phase else {
             return Err(Refusal::NotFound);
         };
-        let n = self.count.min(labels.len());
+        let labels = &labels[..self.count.min(labels.len())];
         let m = (network.legs as usize).min(table.len());
-        let Some(legs) = chain_length(labels, found, n, m) else {
-            return Err(Refusal::Outside);
-        };
+        let legs = chain_length(labels, found, m).ok_or(Refusal::Outside)?;
         if legs > buffer.len() {
             return Err(Refusal::BufferShort);
         }
-        write_chain(labels, found, n, m, legs, buffer);
+        write_chain(labels, found, m, legs, buffer);
         Ok(legs)
     }
 }

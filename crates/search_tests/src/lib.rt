@@ -2,7 +2,11 @@
 #![tactic(auto)]
 
 #[cfg(test)]
+mod desks;
+
+#[cfg(test)]
 mod tests {
+    use figures::network_a::{leg, legs_a, network_a};
     use network::estimates::*;
     use network::legs::*;
     use network::refusals::*;
@@ -17,29 +21,8 @@ mod tests {
     use std::test::Fail;
     use worksheet::records::*;
 
-    fn leg(tail: u16, head: u16, fee: u32, grade: u8, stated: u32) -> Leg {
-        Leg {
-            tail,
-            head,
-            fee,
-            grade,
-            stated,
-            medium: 0,
-        }
-    }
-
-    // Four sites, and routes from 0 to 3 by 1 (fee 4, delay 9, grade 3), by 2 (5, 3, 2) and straight (9, 1, 1).
-    fn four_sites() -> [Leg; 5] {
-        [
-            leg(0, 1, 2, 3, 4),
-            leg(1, 3, 2, 1, 5),
-            leg(0, 2, 4, 2, 1),
-            leg(2, 3, 1, 2, 2),
-            leg(0, 3, 9, 1, 1),
-        ]
-    }
-
-    // The least fees and delays to site 3.
+    // The least fees and delays to site 3 of network A, whose routes from 0 to 3 go by 1 (fee 4, delay 9, grade 3), by 2
+    // (5, 3, 2) and straight (9, 1, 1).
     fn nearest<'a>() -> Reached<'a> {
         Reached {
             costs: &[4, 2, 1, 0],
@@ -105,7 +88,7 @@ mod tests {
         })
     }
 
-    // The search from 0 to 3 in the network of four sites.
+    // The search from 0 to 3 in network A.
     fn search<Q: Queue, T: Tariff, E: Estimate>(
         rt: &impl Abort,
         queue: &mut Q,
@@ -114,12 +97,10 @@ mod tests {
         limit: u32,
         records: usize,
     ) -> Result<Found, Fail> {
-        let network = Network { sites: 4, legs: 5 };
-        let table = four_sites();
         search_in(
             rt,
-            network,
-            &table,
+            network_a(),
+            &legs_a(),
             query(3, limit),
             queue,
             tariff,
@@ -221,7 +202,7 @@ mod tests {
         Ok(())
     }
 
-    // The answer to an open from 0 to 3 with these tables as the estimate.
+    // The answer to an open from 0 to 3 in network A with these tables as the estimate.
     fn opened<'a, Q: Queue>(
         queue: &mut Q,
         costs: &'a [u64],
@@ -232,8 +213,8 @@ mod tests {
         let mut search = Search::new();
         search.open(
             query(3, 9),
-            &Network { sites: 4, legs: 5 },
-            &four_sites(),
+            &network_a(),
+            &legs_a(),
             &mut labels,
             &mut least,
             queue,
@@ -341,19 +322,15 @@ mod tests {
         Ok(())
     }
 
-    // What an event tells: the number by which its call was refused, or 0; the steps made or the legs traced; and the verdict
-    // after it.
-    fn told(event: &Event) -> (u8, u64, Verdict) {
-        let after = event.after;
-        match &event.answer {
-            Answer::Opened(Ok(())) => (0, 0, after),
-            Answer::Opened(Err(why)) => (why.number(), 0, after),
-            Answer::Advanced(Ok(steps)) => (0, *steps as u64, after),
-            Answer::Advanced(Err(why)) => (why.number(), 0, after),
-            Answer::Told(_) => (0, 0, after),
-            Answer::Traced(Ok(legs)) => (0, legs.len() as u64, after),
-            Answer::Traced(Err(why)) => (why.number(), 0, after),
-        }
+    // What a call is answered: the steps made or the legs traced, 0 where there are none to tell; or the number of its refusal.
+    fn told(answer: &Answer) -> Result<usize, u8> {
+        let told = match answer {
+            Answer::Opened(opened) => opened.map(|_| 0),
+            Answer::Advanced(advanced) => advanced.map(|steps| steps as usize),
+            Answer::Told(_) => Ok(0),
+            Answer::Traced(traced) => traced.as_ref().map(|legs| legs.len()).map_err(|why| *why),
+        };
+        told.map_err(|why| why.number())
     }
 
     // A list of calls on one worksheet, refused ones among them.
@@ -378,8 +355,8 @@ mod tests {
         conduct(
             heap,
             &calls,
-            &Network { sites: 4, legs: 5 },
-            &four_sites(),
+            &network_a(),
+            &legs_a(),
             &mut labels,
             &mut least,
             &mut queue,
@@ -387,43 +364,22 @@ mod tests {
             &nearest(),
             &mut events,
         )?;
-        let fresh = Verdict {
-            standing: Standing::Fresh,
-            steps: 0,
-        };
-        let open = Standing::Open;
-        let found = Verdict {
-            standing: Standing::Found(Mark { cost: 4, delay: 9 }),
-            steps: 3,
-        };
+        let found = Standing::Found(Mark { cost: 4, delay: 9 });
         let due = [
-            (13, 0, fresh),
-            (14, 0, fresh),
-            (
-                0,
-                0,
-                Verdict {
-                    standing: open,
-                    steps: 0,
-                },
-            ),
-            (
-                0,
-                2,
-                Verdict {
-                    standing: open,
-                    steps: 2,
-                },
-            ),
-            (0, 1, found),
-            (18, 0, found),
-            (0, 2, found),
-            (10, 0, found),
-            (0, 0, found),
+            (Err(13), Standing::Fresh, 0),
+            (Err(14), Standing::Fresh, 0),
+            (Ok(0), Standing::Open, 0),
+            (Ok(2), Standing::Open, 2),
+            (Ok(1), found, 3),
+            (Err(18), found, 3),
+            (Ok(2), found, 3),
+            (Err(10), found, 3),
+            (Ok(0), found, 3),
         ];
-        assert!(rt; events.len() == due.len());
-        for (event, expected) in events.iter().zip(due.iter()) {
-            assert_eq!(rt; told(event), *expected);
+        assert_eq!(rt; events.len(), due.len());
+        for (event, (answer, standing, steps)) in events.iter().zip(due) {
+            assert_eq!(rt; told(&event.answer), answer);
+            assert_eq!(rt; event.after, Verdict { standing, steps });
         }
         Ok(())
     }

@@ -1,5 +1,5 @@
 -- The plans of a sheet, read one by one to its end. Assumes nothing.
-use Rattle.std.proofs.Common.{◌≡◌, ℕ, ◌<◌, Bool, true, false, cond, List, [], ◌∷◌, length, Some, None, Ok, Err, Option, Result, sym, refl, ap, ◌∙◌, subst, arith}
+use Rattle.std.proofs.Common.{◌≡◌, ℕ, ◌<◌, Bool, true, false, cond, is_some, List, [], ◌∷◌, length, Some, None, Ok, Err, Option, Result, sym, refl, ap, ◌∙◌, subst, arith}
 use Rattle.network.specs.declared.plans.Plan.{Plan}
 use Rattle.network.specs.declared.refusals.Refusal.{Refusal}
 use Rattle.network.specs.declared.refusals.Refusal.TheVariants.{OutOfPlace}
@@ -9,12 +9,12 @@ use Rattle.sheet.specs.Words.{Kind}
 use Rattle.sheet.specs.Sheets.{and_then, by_plan, next_from, one_more, past, plan_stated, row_kind}
 use Rattle.sheet.specs.Calls.{moved, next_of, rows_left}
 use Rattle.sheet.specs.Check.{on_plan, plans_from}
-use Rattle.sheet.proofs.Loading.{never, rows_after}
+use Rattle.sheet.proofs.Loading.{rows_after}
 
 -- a line that is known to state something is of a known kind
 known : {Y : Type 0} (k : Result Kind Refusal) (f : Kind → Result Y Refusal) (y : Y) → and_then k f ≡ Ok y → (t : Kind) × (k ≡ Ok t)
 known (Ok t) f y e = (t, refl)
-known (Err x) f y e = let z : ◌≡◌ {A = ℕ} 0 1 = cc in never z
+known (Err x) f y e = cc
 
 module _ (loaded : Bool) (n at line : ℕ) where
   abbrev stated : Row → Result Plan Refusal
@@ -28,12 +28,12 @@ module _ (loaded : Bool) (n at line : ℕ) where
   plan_read [] p e = at_end loaded e
     where
       at_end : {X : Type 0} (b : Bool) → Ok (Some p) ≡ no_line b → X
-      at_end true e = let z : ◌≡◌ {A = ℕ} 0 1 = cc in never z
-      at_end false e = let z : ◌≡◌ {A = ℕ} 0 1 = cc in never z
+      at_end true e = cc
+      at_end false e = cc
   plan_read (r ∷ rs) p e = (r, rs, refl, by_answer (stated r) e)
     where
       by_answer : (o : Result Plan Refusal) → Ok (Some p) ≡ (by_plan at line (past at r) o).answer → o ≡ Ok p
-      by_answer (Err x) e = let z : ◌≡◌ {A = ℕ} 0 1 = cc in never z
+      by_answer (Err x) e = cc
       by_answer (Ok q) e = let k : p ≡ q = cc in ap Ok (sym k)
 
   -- where none was read there was no line, after an accepted load
@@ -43,12 +43,12 @@ module _ (loaded : Bool) (n at line : ℕ) where
     where
       at_end : (b : Bool) → Ok None ≡ no_line b → Ok plans ≡ cond b (Ok plans) (Err (OutOfPlace line))
       at_end true e = refl
-      at_end false e = let z : ◌≡◌ {A = ℕ} 0 1 = cc in never z
+      at_end false e = cc
   count_end plans (r ∷ rs) e = by_answer (stated r) e
     where
       by_answer : {X : Type 0} (o : Result Plan Refusal) → Ok None ≡ (by_plan at line (past at r) o).answer → X
-      by_answer (Err x) e = let z : ◌≡◌ {A = ℕ} 0 1 = cc in never z
-      by_answer (Ok q) e = let z : ◌≡◌ {A = ℕ} 0 1 = cc in never z
+      by_answer (Err x) e = cc
+      by_answer (Ok q) e = cc
 
   -- a refused line is the first refusal
   pub count_refused : (plans : ℕ) (rows : List Row) (x : Refusal) → Err x ≡ (next_from loaded n at line rows).answer → Err x ≡ plans_from loaded n line plans rows
@@ -56,13 +56,13 @@ module _ (loaded : Bool) (n at line : ℕ) where
   count_refused plans [] x e = at_end loaded e
     where
       at_end : (b : Bool) → Err x ≡ no_line b → Err x ≡ cond b (Ok plans) (Err (OutOfPlace line))
-      at_end true e = let z : ◌≡◌ {A = ℕ} 0 1 = cc in never z
+      at_end true e = cc
       at_end false e = let k : x ≡ OutOfPlace line = cc in ap Err k
   count_refused plans (r ∷ rs) x e = by_answer (stated r) e
     where
       by_answer : (o : Result Plan Refusal) → Err x ≡ (by_plan at line (past at r) o).answer → Err x ≡ on_plan o (plans_from loaded n (one_more line) (one_more plans) rs)
       by_answer (Err y) e = let k : x ≡ y = cc in ap Err k
-      by_answer (Ok q) e = let z : ◌≡◌ {A = ℕ} 0 1 = cc in never z
+      by_answer (Ok q) e = cc
 
 -- what one more plan leaves: the same count in the end, and a line less
 pub record More (n plans : ℕ) (s s' : Reader) : Type 0 where
@@ -88,3 +88,12 @@ count_more n plans s s' p e m =
           ∙ ap (plans_from s.loaded n line plans) (sym b.2);
       fewer = omega arith;
     })
+
+-- the same by the test that the loop makes of what was read
+pub some_read : (o : Option Plan) → is_some o ≡ true → (p : Plan) × (o ≡ Some p)
+some_read None e = cc
+some_read (Some p) e = (p, refl)
+
+pub none_read : (o : Option Plan) → is_some o ≡ false → o ≡ None
+none_read None e = refl
+none_read (Some p) e = cc

@@ -29,20 +29,20 @@ none_left line at (r ∷ rs) e = never (none_kind (row_kind line r) e)
 
 -- a first line that is refused
 pub refused_line : (line at : ℕ) (rows : List Row) (x : Refusal) → Err x ≡ line_ahead line at rows → (r : Row) × (rs : List Row) × (rows ≡ r ∷ rs) × (row_kind line r ≡ Err x)
-refused_line line at [] x e = let z : ◌≡◌ {A = ℕ} 0 1 = cc in never z
+refused_line line at [] x e = cc
 refused_line line at (r ∷ rs) x e = (r, rs, refl, at_kind (row_kind line r) e)
   where
     at_kind : (k : Result Kind Refusal) → Err x ≡ some_placed (past at r) k → k ≡ Err x
-    at_kind (Ok t) e = let z : ◌≡◌ {A = ℕ} 0 1 = cc in never z
+    at_kind (Ok t) e = cc
     at_kind (Err y) e = let k : x ≡ y = cc in ap Err (sym k)
 
 -- a first line of a known kind
 pub kind_line : (line at : ℕ) (rows : List Row) (t : Kind) (k : ℕ) → Ok (Some (placed k t)) ≡ line_ahead line at rows → (r : Row) × (rs : List Row) × (rows ≡ r ∷ rs) × (row_kind line r ≡ Ok t) × (k ≡ past at r)
-kind_line line at [] t k e = let z : ◌≡◌ {A = ℕ} 0 1 = cc in never z
+kind_line line at [] t k e = cc
 kind_line line at (r ∷ rs) t k e = let b = at_kind (row_kind line r) e in (r, rs, refl, b.0, b.1)
   where
     at_kind : (o : Result Kind Refusal) → Ok (Some (placed k t)) ≡ some_placed (past at r) o → (o ≡ Ok t) × (k ≡ past at r)
-    at_kind (Err x) e = let z : ◌≡◌ {A = ℕ} 0 1 = cc in never z
+    at_kind (Err x) e = cc
     at_kind (Ok u) e = let p : placed k t ≡ placed (past at r) u = cc in (ap (λ x. Ok x.what) (sym p), ap (λ x. x.after) p)
 
 -- a line of a known kind has its end byte
@@ -51,7 +51,7 @@ ended_line line r t e = by_end r.ended e
   where
     by_end : (b : Bool) → cond b (or_refuse (UnknownWord line) (kind_by_word r.bytes)) (Err (Unended line)) ≡ Ok t → b ≡ true
     by_end true e = refl
-    by_end false e = let z : ◌≡◌ {A = ℕ} 0 1 = cc in never z
+    by_end false e = cc
 
 -- the lines after a line of a known kind
 pub rows_after : (line at : ℕ) (sheet : List ℕ) (r : Row) (rs : List Row) (t : Kind) (k : ℕ) → lines (drop at sheet) ≡ r ∷ rs → row_kind line r ≡ Ok t → k ≡ past at r → rs ≡ lines (drop k sheet)
@@ -144,14 +144,14 @@ module _ (n room m : ℕ) (reader : Reader) (table : List Leg) (le : m ≤ lengt
 
 -- a leg is stated only where there is room
 pub stated_free : (n line : ℕ) (b : Bool) (t : Kind) (l : Leg) → Ok (Some l) ≡ leg_stated n line b t → b ≡ true
-stated_free n line b (network t) l e = let z : ◌≡◌ {A = ℕ} 0 1 = cc in never z
-stated_free n line b (plan t) l e = let z : ◌≡◌ {A = ℕ} 0 1 = cc in never z
+stated_free n line b (network t) l e = cc
+stated_free n line b (plan t) l e = cc
 stated_free n line b (leg t) l e = by_entry (leg_entry n line (fields t)) b e
   where
     by_entry : (r : Result Leg Refusal) (b : Bool) → Ok (Some l) ≡ with_room line b r → b ≡ true
-    by_entry (Err x) b e = let z : ◌≡◌ {A = ℕ} 0 1 = cc in never z
+    by_entry (Err x) b e = cc
     by_entry (Ok x) true e = refl
-    by_entry (Ok x) false e = let z : ◌≡◌ {A = ℕ} 0 1 = cc in never z
+    by_entry (Ok x) false e = cc
 
 -- one more leg at the table's front
 pub front_more : (table table₀ : List Leg) (m : ℕ) (l : Leg) → m < length table → table ≡ take m table ++ drop m table₀ → set table m l ≡ take (m + 1) (set table m l) ++ drop (m + 1) table₀

@@ -40,7 +40,7 @@ read_push m n c [] e low high =
 read_push m n c (x ∷ xs) e low high = by_byte (ltb x 48 || ltb 57 x) (λ h. read_push (10 * m + (x - 48)) n c xs h low high) e
   where
     by_byte : (b : Bool) → (read_on (10 * m + (x - 48)) xs ≡ Some n → read_on (10 * m + (x - 48)) (xs ++ c ∷ []) ≡ Some (10 * n + (c - 48))) → cond b None (read_on (10 * m + (x - 48)) xs) ≡ Some n → cond b None (read_on (10 * m + (x - 48)) (xs ++ c ∷ [])) ≡ Some (10 * n + (c - 48))
-    by_byte true more e = let z : ◌≡◌ {A = ℕ} 0 1 = cc in absurd (omega arith)
+    by_byte true more e = cc
     by_byte false more e = more e
 
 read_decimal : (n : ℕ) → n < 2 ^ 64 → read_on 0 (decimal n) ≡ Some n

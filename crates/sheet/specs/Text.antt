@@ -1,6 +1,5 @@
 -- How a sheet's bytes are cut into lines and fields, and the number that a field writes. Assumes nothing.
 use Rattle.std.specs.Prelude.{ℕ, ◌+◌, ◌-◌, ◌*◌, Bool, true, false, cond, ◌&&◌, ◌||◌, List, [], ◌∷◌, length, Some, None, Option, ◌==◌, nat_lt, slice_index}
-use Rattle.std.specs.Borrow.{Bor}
 
 -- The bytes before the first b, or all of them.
 unfoldable pub upto : ℕ → List ℕ → List ℕ
@@ -52,17 +51,3 @@ both (Some v) (Some vs) = Some (v ∷ vs)
 unfoldable pub values : List (List ℕ) → Option (List ℕ)
 values [] = Some []
 values (f ∷ fs) = both (value f) (values fs)
-
--- What a reference that may be absent points to.
-abbrev pub seen : Option (Bor (List ℕ)) → Option (List ℕ)
-seen None = None
-seen (Some r) = Some r.now
-
--- The first of a list, and the others.
-abbrev pub head_of : {X : Type 0} → List X → Option X
-head_of [] = None
-head_of (x ∷ xs) = Some x
-
-abbrev pub tail_of : {X : Type 0} → List X → List X
-tail_of [] = []
-tail_of (x ∷ xs) = xs

@@ -22,7 +22,7 @@ impl Reader<'_> {
         ensures { result ≡ plans_from self.old.loaded network.now.sites self.old.line 0 (rows_left self.old) }
     {
         let mut plans: u64 = 0;
-        while let Some(_) = self.next(network)? {
+        while self.next(network)?.is_some() {
             plans = plans.saturating_add(1);
         }
         Ok(plans)
@@ -36,7 +36,7 @@ pub fn check_sheet(sheet: &[u8], table: &mut [Leg]) -> Result<Summary, Refusal>
     ensures legs { table.new ≡ fronted (loaded_from (length table.old) (lines sheet.now)).legs table.old }
 {
     let mut reader = Reader::new(sheet);
-    let mut network = Network { sites: 0, legs: 0 };
+    let mut network = Network::default();
     reader.load(&mut network, table)?;
     let plans = reader.count_plans(&network)?;
     Ok(Summary { network, plans })

@@ -11,20 +11,20 @@ fn digits(n: u64) -> usize
     ensures value { result ≡ length (decimal n) }
     ensures within { result ≤ 20 }
 {
-    if n < 10 { 1 } else { digits(n / 10) + 1 }
+    n.checked_ilog10().unwrap_or(0) as usize + 1
 }
 
-// Puts a number's digits at a place, and answers the place after them.
-fn put_number(buffer: &mut [u8], at: usize, n: u64) -> usize
-    requires { at + length (decimal n) ≤ length buffer.old }
-    ensures value { result ≡ at + length (decimal n) }
-    ensures after { buffer.new ≡ laid (decimal n) at buffer.old }
+// Puts a number's digits at the buffer's start, and answers how many there are.
+fn put_number(buffer: &mut [u8], n: u64) -> usize
+    requires { length (decimal n) ≤ length buffer.old }
+    ensures value { result ≡ length (decimal n) }
+    ensures after { buffer.new ≡ laid (decimal n) 0 buffer.old }
 {
-    if n < 10 {
-        buffer[at] = b'0' + n as u8;
-        return at + 1;
-    }
-    let place = put_number(buffer, at, n / 10);
+    let place = if n < 10 {
+        0
+    } else {
+        put_number(buffer, n / 10)
+    };
     buffer[place] = b'0' + (n % 10) as u8;
     place + 1
 }
@@ -34,23 +34,19 @@ fn listed_len(numbers: &[u64; 6]) -> usize
     ensures value { result ≡ length (listed numbers.now) }
     ensures within { result ≤ 126 }
 {
-    let mut sum = 0;
-    for n in numbers {
-        sum += 1 + digits(*n);
-    }
-    sum
+    numbers.iter().map(|n| 1 + digits(*n)).sum()
 }
 
-// Puts numbers at a place, each after a comma, and answers the place after them.
-fn put_listed(buffer: &mut [u8], at: usize, numbers: &[u64; 6]) -> usize
-    requires { at + length (listed numbers.now) ≤ length buffer.old }
-    ensures value { result ≡ at + length (listed numbers.now) }
-    ensures after { buffer.new ≡ laid (listed numbers.now) at buffer.old }
+// Puts numbers at the buffer's start, each after a comma, and answers the place after them.
+fn put_listed(buffer: &mut [u8], numbers: &[u64; 6]) -> usize
+    requires { length (listed numbers.now) ≤ length buffer.old }
+    ensures value { result ≡ length (listed numbers.now) }
+    ensures after { buffer.new ≡ laid (listed numbers.now) 0 buffer.old }
 {
-    let mut place = at;
+    let mut place = 0;
     for n in numbers {
         buffer[place] = b',';
-        place = put_number(buffer, place + 1, *n);
+        place += 1 + put_number(&mut buffer[place + 1..], *n);
     }
     place
 }
@@ -60,12 +56,12 @@ fn numbers(leg: &Leg) -> [u64; 6]
     ensures { result ≡ leg_numbers leg.now }
 {
     [
-        leg.tail as u64,
-        leg.head as u64,
-        leg.fee as u64,
-        leg.grade as u64,
-        leg.stated as u64,
-        leg.medium as u64,
+        u64::from(leg.tail),
+        u64::from(leg.head),
+        u64::from(leg.fee),
+        u64::from(leg.grade),
+        u64::from(leg.stated),
+        u64::from(leg.medium),
     ]
 }
 
@@ -81,13 +77,12 @@ pub fn write_leg(leg: &Leg, buffer: &mut [u8]) -> Result<usize, Refusal>
         return Err(Refusal::WrittenLegRange);
     }
     let numbers = numbers(leg);
-    if 3 + listed_len(&numbers) + 1 > buffer.len() {
+    let end = 3 + listed_len(&numbers);
+    if end >= buffer.len() {
         return Err(Refusal::BufferShort);
     }
-    buffer[0] = b'l';
-    buffer[1] = b'e';
-    buffer[2] = b'g';
-    let end = put_listed(buffer, 3, &numbers);
+    buffer[..3].copy_from_slice(b"leg");
+    put_listed(&mut buffer[3..], &numbers);
     buffer[end] = b'\n';
     Ok(end + 1)
 }

@@ -11,19 +11,24 @@ mod tests {
     use sheet::writing::write_leg;
     use std::process::Abort;
 
-    // A sheet, with the number and the line of its first refusal.
+    // A sheet, with the number and the line of its first refusal; none where it is sound.
     #[derive(Clone, Copy)]
     struct Example<'a> {
         sheet: &'a [u8],
-        number: u8,
-        line: u64,
+        refusal: Option<(u8, Option<u64>)>,
     }
 
-    fn case<'a>(sheet: &'a [u8], number: u8, line: u64) -> Example<'a> {
+    fn refused<'a>(sheet: &'a [u8], number: u8, line: u64) -> Example<'a> {
         Example {
             sheet,
-            number,
-            line,
+            refusal: Some((number, Some(line))),
+        }
+    }
+
+    fn sound<'a>(sheet: &'a [u8]) -> Example<'a> {
+        Example {
+            sheet,
+            refusal: None,
         }
     }
 
@@ -38,23 +43,13 @@ mod tests {
         }
     }
 
-    // The number and the line of the first refusal with room for two legs; 0 and 0 for a sound sheet.
-    fn refusal(sheet: &[u8]) -> (u8, u64) {
-        let mut table = [leg(0, 0, 0); 2];
-        match check_sheet(sheet, &mut table) {
-            Ok(_) => (0, 0),
-            Err(why) => match why.place() {
-                Some(Place::Line(line)) => (why.number(), line),
-                _ => (why.number(), 0),
-            },
-        }
-    }
-
+    // Checks each sheet with room for two legs.
     fn run(rt: &impl Abort, cases: &[Example<'_>]) {
         for c in cases {
-            let (number, line) = refusal(c.sheet);
-            assert_eq!(rt; number, c.number);
-            assert_eq!(rt; line, c.line);
+            let mut table = [leg(0, 0, 0); 2];
+            let first = check_sheet(c.sheet, &mut table).err();
+            let refusal = first.map(|why| (why.number(), why.line()));
+            assert_eq!(rt; refusal, c.refusal);
         }
     }
 
@@ -63,26 +58,26 @@ mod tests {
         run(
             &rt,
             &[
-                case(b"", 3, 1),
-                case(b"\n", 2, 1),
-                case(b"network,4", 1, 1),
-                case(b"leg,0,1,2,3,4,0\n", 3, 1),
-                case(b"plan\n", 3, 1),
-                case(b"plan", 1, 1),
-                case(b"Network,4\n", 2, 1),
-                case(b"networks,4\n", 2, 1),
-                case(b"network\n", 4, 1),
-                case(b"network,1,2\n", 4, 1),
-                case(b"network,\n", 5, 1),
-                case(b"network,4\r\n", 5, 1),
-                case(b"network,+4\n", 5, 1),
-                case(b"network,04\n", 5, 1),
-                case(b"network,10000000000\n", 5, 1),
-                case(b"network,9999999999\n", 6, 1),
-                case(b"network,1025\n", 6, 1),
-                case(b"network,0\n", 6, 1),
-                case(b"network,1024\n", 0, 0),
-                case(b"network,1\n", 0, 0),
+                refused(b"", 3, 1),
+                refused(b"\n", 2, 1),
+                refused(b"network,4", 1, 1),
+                refused(b"leg,0,1,2,3,4,0\n", 3, 1),
+                refused(b"plan\n", 3, 1),
+                refused(b"plan", 1, 1),
+                refused(b"Network,4\n", 2, 1),
+                refused(b"networks,4\n", 2, 1),
+                refused(b"network\n", 4, 1),
+                refused(b"network,1,2\n", 4, 1),
+                refused(b"network,\n", 5, 1),
+                refused(b"network,4\r\n", 5, 1),
+                refused(b"network,+4\n", 5, 1),
+                refused(b"network,04\n", 5, 1),
+                refused(b"network,10000000000\n", 5, 1),
+                refused(b"network,9999999999\n", 6, 1),
+                refused(b"network,1025\n", 6, 1),
+                refused(b"network,0\n", 6, 1),
+                sound(b"network,1024\n"),
+                sound(b"network,1\n"),
             ],
         );
     }
@@ -92,35 +87,35 @@ mod tests {
         run(
             &rt,
             &[
-                case(b"network,4\nnetwork,x\n", 3, 2),
-                case(b"network,4\n\n", 2, 2),
-                case(b"network,4\nleg,x,1,2,3,4\n", 4, 2),
-                case(b"network,4\nleg,4,1,02,3,4,0\n", 5, 2),
-                case(b"network,4\nleg,4,1,2,3,4,0\n", 6, 2),
-                case(b"network,4\nleg,0,4,2,3,4,0\n", 6, 2),
-                case(b"network,4\nleg,0,1,1000001,3,4,0\n", 6, 2),
-                case(b"network,4\nleg,0,1,2,256,4,0\n", 6, 2),
-                case(b"network,4\nleg,0,1,2,3,100001,0\n", 6, 2),
-                case(b"network,4\nleg,0,1,2,3,4,8\n", 6, 2),
-                case(b"network,4\nleg,3,3,1000000,255,100000,7\n", 0, 0),
-                case(
+                refused(b"network,4\nnetwork,x\n", 3, 2),
+                refused(b"network,4\n\n", 2, 2),
+                refused(b"network,4\nleg,x,1,2,3,4\n", 4, 2),
+                refused(b"network,4\nleg,4,1,02,3,4,0\n", 5, 2),
+                refused(b"network,4\nleg,4,1,2,3,4,0\n", 6, 2),
+                refused(b"network,4\nleg,0,4,2,3,4,0\n", 6, 2),
+                refused(b"network,4\nleg,0,1,1000001,3,4,0\n", 6, 2),
+                refused(b"network,4\nleg,0,1,2,256,4,0\n", 6, 2),
+                refused(b"network,4\nleg,0,1,2,3,100001,0\n", 6, 2),
+                refused(b"network,4\nleg,0,1,2,3,4,8\n", 6, 2),
+                sound(b"network,4\nleg,3,3,1000000,255,100000,7\n"),
+                refused(
                     b"network,4\nleg,0,1,2,3,4,0\nleg,0,1,2,3,4,0\nleg,0,1,2,3,4,0\n",
                     7,
                     4,
                 ),
-                case(
+                refused(
                     b"network,4\nleg,0,1,2,3,4,0\nleg,0,1,2,3,4,0\nleg,4,1,2,3,4,0\n",
                     6,
                     4,
                 ),
-                case(b"network,4\nplan,7,0,3,9", 1, 2),
-                case(b"network,4\nplan,7,0,3\n", 4, 2),
-                case(b"network,4\nplan,1000,0,3,9\n", 6, 2),
-                case(b"network,4\nplan,7,4,3,9\n", 6, 2),
-                case(b"network,4\nplan,7,0,4,9\n", 6, 2),
-                case(b"network,4\nplan,7,0,3,1000001\n", 6, 2),
-                case(b"network,4\nplan,999,3,3,1000000\n", 0, 0),
-                case(b"network,4\nplan,7,0,3,9\nleg,0,1,2,3,4,0\n", 3, 3),
+                refused(b"network,4\nplan,7,0,3,9", 1, 2),
+                refused(b"network,4\nplan,7,0,3\n", 4, 2),
+                refused(b"network,4\nplan,1000,0,3,9\n", 6, 2),
+                refused(b"network,4\nplan,7,4,3,9\n", 6, 2),
+                refused(b"network,4\nplan,7,0,4,9\n", 6, 2),
+                refused(b"network,4\nplan,7,0,3,1000001\n", 6, 2),
+                sound(b"network,4\nplan,999,3,3,1000000\n"),
+                refused(b"network,4\nplan,7,0,3,9\nleg,0,1,2,3,4,0\n", 3, 3),
             ],
         );
     }
@@ -160,7 +155,7 @@ mod tests {
     #[test]
     fn plans(rt: HostRuntime) {
         let mut reader = Reader::new(b"network,4\nplan,7,0,3,9\nplan,8,1,2,0\n");
-        let mut network = Network { sites: 0, legs: 0 };
+        let mut network = Network::default();
         assert_eq!(rt; reader.next(&network), Err(Refusal::OutOfPlace(1)));
         assert_eq!(rt; reader.load(&mut network, &mut []), Ok(()));
         let narrow = Network { sites: 3, legs: 0 };

@@ -1,21 +1,14 @@
 -- The lines that tell what a sheet has, or its first refusal, and what its plans come to at the least. Assumes nothing.
-use Rattle.std.specs.Prelude.{◌≡◌, ℕ, true, List, [], ◌++◌, is_err, Some, None, Ok, Err, codes, decimal, Option, Result}
+use Rattle.std.specs.Prelude.{◌≡◌, ℕ, true, List, [], ◌++◌, is_err, Some, None, Ok, Err, codes, decimal, unwrap_or, Option, Result}
 use Rattle.network.specs.declared.estimates.Bound.{Bound}
 use Rattle.network.specs.declared.plans.Plan.{Plan}
-use Rattle.network.specs.declared.refusals.Place.{Place}
-use Rattle.network.specs.declared.refusals.Place.TheVariants as place
 use Rattle.network.specs.declared.refusals.Refusal.{Refusal}
-use Rattle.network.specs.Refusals.{number_of, place_of}
+use Rattle.network.specs.Refusals.{line_of, number_of}
 use Rattle.sheet.specs.declared.check.Summary.{Summary}
-
-abbrev pub line_of : Option Place → ℕ
-line_of None = 0
-line_of (Some (place.Line line)) = line
-line_of (Some (place.Leg leg)) = 0
 
 -- The line that a refusal carries; 0 where it carries none.
 abbrev pub line_at_fault : Refusal → ℕ
-line_at_fault r = line_of (place_of r)
+line_at_fault r = unwrap_or (line_of r) 0
 
 -- `ok,SITES,LEGS,PLANS` or `refuse,NUMBER,LINE`.
 abbrev pub answer_line : Result Summary Refusal → List ℕ

@@ -17,12 +17,12 @@ pub same_some : {A : Type 0} (o : Option A) (x y : A) → o ≡ Some x → o ≡
 same_some o x y e f = cc
 
 some_and_none : {A : Type 0} (o : Option A) (x : A) → o ≡ Some x → o ≡ None → ⊥
-some_and_none o x e f = let z : ◌≡◌ {A = ℕ} 0 1 = cc in omega arith
+some_and_none o x e f = cc
 
 -- The rules for a leg, one by one: a head is cut off with its tail, and the two bounds.
 cut_off_rule : (g : Graph) (leg : Leg) (o q : Option Bound) → ends_keep_rules g leg o q ≡ true → o ≡ None → q ≡ None
 cut_off_rule g leg None None e f = refl
-cut_off_rule g leg None (Some h) e f = let z : ◌≡◌ {A = ℕ} 0 1 = cc in absurd (omega arith)
+cut_off_rule g leg None (Some h) e f = cc
 cut_off_rule g leg (Some t) q e f = absurd (some_and_none (Some t) t refl f)
 
 bounds_rule : (g : Graph) (leg : Leg) (o q : Option Bound) (t h : Bound) → ends_keep_rules g leg o q ≡ true → o ≡ Some t → q ≡ Some h

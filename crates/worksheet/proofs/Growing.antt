@@ -1,5 +1,6 @@
 -- How an expansion lets the tables grow, and how many labels a search can write. Assumes nothing.
-use Rattle.std.proofs.Common.{◌≡◌, ℕ, zero, suc, ◌+◌, ◌<◌, ◌≤◌, cond, eqb, ◌≢◌, ◌⊎◌, List, [], ◌∷◌, length, get_or, set, sym, refl, ◌∙◌, subst, inr, arith, length-set, get_or-set_other, get_or-set_same}
+use Rattle.std.proofs.Common.{◌≡◌, ℕ, suc, ◌+◌, ◌<◌, ◌≤◌, cond, eqb, ◌≢◌, ◌⊎◌, List, [], ◌∷◌, length, get_or, set, sym, refl, ◌∙◌, subst, inr, arith, length-set, get_or-set_other, get_or-set_same}
+use Rattle.std.proofs.lemmas.List.{get_or_past}
 use Rattle.std.proofs.lemmas.Bool.{cond_both, cond-true, eqb-true, eqb-false, eq-eqb}
 use Rattle.network.specs.declared.estimates.Bound.{Bound}
 use Rattle.network.specs.declared.legs.Leg.{Leg}
@@ -27,9 +28,7 @@ weight least (leg ∷ more) = get_or least leg.tail 0 + weight least more
 
 -- A record above another number is there.
 pub record_is_there : (least : List ℕ) (u d : ℕ) → d < get_or least u 0 → u < length least
-record_is_there [] u d h = absurd (omega arith)
-record_is_there (x ∷ xs) zero d h = omega arith
-record_is_there (x ∷ xs) (suc u) d h = omega (arith, record_is_there xs u d h)
+record_is_there least u d h = let n : length least ≤ u → ⊥ = λ l. omega (arith, get_or_past least u 0 l) in omega arith
 
 -- A record that is lowered takes at least one off the weight for each leg that leaves its site.
 weight_of_leg : (least : List ℕ) (u d : ℕ) (leg : Leg) → d < get_or least u 0 → get_or (set least u d) leg.tail 0 + leaves u leg ≤ get_or least leg.tail 0

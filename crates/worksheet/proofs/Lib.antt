@@ -1,7 +1,7 @@
 mod Members
 mod Marks
 mod Estimates
-mod Ways
+pub mod Ways
 mod Growing
 mod Chains
 mod Covering

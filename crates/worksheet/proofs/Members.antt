@@ -1,11 +1,11 @@
 -- Membership in a list, and in a bag, with one element more. Assumes nothing.
-use Rattle.std.proofs.Common.{◌≡◌, zero, suc, ◌⊎◌, List, [], ◌∷◌, refl, subst, inl, inr, ⊎_elim, arith}
+use Rattle.std.proofs.Common.{◌≡◌, suc, List, [], ◌∷◌, refl, subst, ⊎_elim, arith}
 use Rattle.std.specs.List.{ContainsAt as Has}
 use Rattle.queue.specs.declared.entry.Entry.{Entry}
 use Rattle.queue.specs.Bag.{insert}
-use Rattle.queue.proofs.Bags.{has_insert_cases}
+use Rattle.queue.proofs.Bags.{has_cases, has_insert_cases}
 
--- An empty list has nothing; a longer one has its first element, the others, and no more.
+-- An empty list has nothing; a longer one has its first element and the others.
 pub has_none : {X : Type 0} (y : X) → Has [] y → ⊥
 has_none y h = omega (arith, h.1)
 
@@ -14,10 +14,6 @@ has_first x xs = (0, omega arith, λ d. refl)
 
 pub has_rest : {X : Type 0} (x : X) (xs : List X) (y : X) → Has xs y → Has (x ∷ xs) y
 has_rest x xs y h = (suc h.0, omega (arith, h.1), h.2)
-
-pub has_cases : {X : Type 0} (x : X) (xs : List X) (y : X) → Has (x ∷ xs) y → (x ≡ y) ⊎ Has xs y
-has_cases x xs y (zero, l, m) = inl (m x)
-has_cases x xs y (suc k, l, m) = inr (k, omega arith, m)
 
 -- What holds of the new element and of the others holds of each.
 pub each_cons : {X : Type 0} (P : X → Type 0) (x : X) (xs : List X) → P x → ((y : X) → Has xs y → P y) → (y : X) → Has (x ∷ xs) y → P y

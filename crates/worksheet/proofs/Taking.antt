@@ -9,7 +9,7 @@ use Rattle.network.specs.Tariffs.{Terms}
 use Rattle.network.specs.Walks.{no_leg, leg_at, Walk}
 use Rattle.queue.specs.declared.entry.Entry.{Entry}
 use Rattle.queue.specs.Order.{before}
-use Rattle.queue.proofs.Bags.{rising_first, rising_rest}
+use Rattle.queue.proofs.Bags.{has_cases, rising_first, rising_rest}
 use Rattle.queue.proofs.Orders.{before_irreflexive, not_before_estimate, not_before_cost, not_before_delay}
 use Rattle.worksheet.specs.declared.records.Label.{Label}
 use Rattle.worksheet.specs.declared.records.Mark.{Mark}
@@ -17,7 +17,7 @@ use Rattle.worksheet.specs.declared.records.Phase.TheVariants.{Open}
 use Rattle.worksheet.specs.Problem.{Problem, nothing, extend, finish}
 use Rattle.worksheet.specs.Steps.{State, label_at, with_bag, settle, expand}
 use Rattle.worksheet.specs.Series.{Accepted, RouteOf, walk_mark, Covers, NoLater}
-use Rattle.worksheet.proofs.Members.{has_first, has_rest, has_cases, each_cons}
+use Rattle.worksheet.proofs.Members.{has_first, has_rest, each_cons}
 use Rattle.worksheet.proofs.Marks.{covers_through, total_is, costs, finish_more}
 use Rattle.worksheet.proofs.Estimates.{same_some, Sooner, Ranked, bounded, cheaper}
 use Rattle.worksheet.proofs.Ways.{label_of}

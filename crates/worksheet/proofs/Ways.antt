@@ -13,11 +13,11 @@ use Rattle.worksheet.specs.Problem.{Problem, extend}
 use Rattle.worksheet.specs.Steps.{State, label_at, in_phase, with_bag, write, is_open, dominated, child, try_room, try_new, try_fit, try_head, try_leg, try, expand, settle, arrive, take_new, inside, take_inside, step_from, tick, step}
 
 -- A phase that is not open, and one that a stop leaves, are not `Open`.
-not_open : (q : Phase) → is_open q ≡ false → q ≡ Open → ⊥
-not_open q e f = let z : ◌≡◌ {A = ℕ} 0 1 = cc in omega arith
+pub not_open : (q : Phase) → is_open q ≡ false → q ≡ Open → ⊥
+not_open q e f = cc
 
 pub stopped_not_open : (why : Stop) → Stopped why ≡ Open → ⊥
-stopped_not_open why e = let z : ◌≡◌ {A = ℕ} 0 1 = cc in omega arith
+stopped_not_open why e = cc
 
 -- Why a leg is passed over.
 pub data Passed (p : Problem) (l : Label) (leg : Leg) (s : State) : Type 0 where
@@ -42,8 +42,8 @@ pub data Tried (p : Problem) (i : ℕ) (l : Label) (j : ℕ) (leg : Leg) (s : St
 -- One test after another, the last that is made first.
 module _ (p : Problem) (i : ℕ) (l : Label) (j : ℕ) (leg : Leg) (s : State) where
   tried_room : (h : Bound) → Due p l leg h → (x y : Bool) → ltb s.count (length s.labels) ≡ x → ltb (length s.bag) p.capacity ≡ y → Tried p i l j leg s (try_room p (child p i l j leg) h s x y)
-  tried_room h d false y e f = full h LabelsUsed d (λ q. let z : ◌≡◌ {A = ℕ} 0 1 = cc in omega arith) (inl (ltb-false _ _ e))
-  tried_room h d true false e f = full h QueueFull d (λ q. let z : ◌≡◌ {A = ℕ} 0 1 = cc in omega arith) (inr (ltb-false _ _ f))
+  tried_room h d false y e f = full h LabelsUsed d (λ q. cc) (inl (ltb-false _ _ e))
+  tried_room h d true false e f = full h QueueFull d (λ q. cc) (inr (ltb-false _ _ f))
   tried_room h d true true e f = wrote h d (ltb-true _ _ e)
 
   tried_new : (h : Bound) → Due p l leg h → (b : Bool) → dominated s leg.head (extend p.graph l.mark leg) ≡ b → Tried p i l j leg s (try_new p (child p i l j leg) h s b)

@@ -3,11 +3,16 @@ use Rattle.std.specs.Prelude.{ℕ, ◌+◌, Bool, List, [], ◌∷◌, length, O
 use Rattle.network.specs.declared.estimates.Bound.{Bound}
 use Rattle.network.specs.declared.legs.Leg.{Leg}
 use Rattle.network.specs.declared.legs.Network.{Network}
+use Rattle.network.specs.declared.plans.Plan.{Plan}
 use Rattle.network.specs.Checks.{legs_of}
 use Rattle.network.specs.Tariffs.{Terms}
 use Rattle.network.specs.Walks.{Graph, graph, leg_at}
 use Rattle.worksheet.specs.declared.records.Mark.{Mark}
 use Rattle.worksheet.specs.declared.records.Query.{Query}
+
+-- The question that a plan puts.
+abbrev pub asked : Plan → Query
+asked p = record { start = p.start; goal = p.goal; limit = p.limit }
 
 -- The parts of a worksheet that no call alters: the network with its leg table, what the tariff and the estimate mean, how
 -- many label records and least-delay records there are, and the queue's capacity.

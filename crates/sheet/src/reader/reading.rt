@@ -50,13 +50,10 @@ fn leg_on(line: Line<'_>, sites: u16, number: u64, free: bool) -> Result<Option<
 fn plan_on(line: Line<'_>, loaded: bool, sites: u16, number: u64) -> Result<Plan, Refusal>
     ensures { result ≡ plan_stated loaded sites number (line_kind line.entry) }
 {
-    let Line::Plan(rest) = line else {
-        return Err(Refusal::OutOfPlace(number));
-    };
-    if !loaded {
-        return Err(Refusal::OutOfPlace(number));
+    match line {
+        Line::Plan(rest) if loaded => plan_entry(rest, sites, number),
+        _ => Err(Refusal::OutOfPlace(number)),
     }
-    plan_entry(rest, sites, number)
 }
 
 impl<'a> Reader<'a> {
@@ -68,13 +65,8 @@ impl<'a> Reader<'a> {
             return Ok(None);
         }
         let left = &self.sheet[self.place..];
-        let end = find(left, b'\n');
-        if end >= left.len() {
-            return Err(Refusal::Unended(self.line));
-        }
-        let Some(line) = kind(&left[..end]) else {
-            return Err(Refusal::UnknownWord(self.line));
-        };
+        let end = find(left, b'\n').ok_or(Refusal::Unended(self.line))?;
+        let line = kind(&left[..end]).ok_or(Refusal::UnknownWord(self.line))?;
         Ok(Some(Ahead {
             line,
             after: self.place + end + 1,
@@ -120,13 +112,10 @@ impl<'a> Reader<'a> {
         self.place = 0;
         self.line = 1;
         self.loaded = false;
-        let Some(first) = self.ahead()? else {
-            return Err(Refusal::OutOfPlace(1));
-        };
+        let first = self.ahead()?.ok_or(Refusal::OutOfPlace(1))?;
         let sites = sites_on(first.line, 1)?;
         self.go_on(first.after);
-        let stated = self.read_legs(sites, table)?;
-        *network = stated;
+        *network = self.read_legs(sites, table)?;
         self.loaded = true;
         Ok(())
     }

@@ -1,42 +1,46 @@
-use Rattle.std.proofs.Common.{◌++◌, vec_items, ap, ◌∙◌, arith}
+use Rattle.std.proofs.Common.{◌≡◌, ℕ, ◌++◌, length, replicate, vec_items, sym, ap, ◌∙◌, arith}
+use Rattle.std.proofs.lemmas.List.{length-replicate}
 use Rattle.sheet.specs.declared.reader.Reader.{Reader}
 use Rattle.report.specs.Lines.{plan_line}
-use Rattle.report.proofs.Telling.{less_is_left, line_is, text_more, ends_with_none, ends_with_line, ends_with_plan, leads_on, serves_with, fulfils_with}
+use Rattle.planner.specs.Desks.{desk_of}
+use Rattle.sheet.proofs.Moving.{less_is_left}
+use Rattle.report.proofs.Listing.{two_pieces}
+use Rattle.report.proofs.Telling.{line_is, ends_with_none, ends_refused, leads_on}
 use Rattle.report.proofs.answers.tell_plans.Goals as goal
 
-pub returns-in_default : goal.returns-in_default
-returns-in_default c =
-    let told = c.plans.invariant.4 in
-    (told.0, told.1, ends_with_none _ _ _ _ _ _ c.plans.reader _ c.plans.invariant.0 c.plans.invariant.1 told.2 _ c.in_default.is c.in-Ok.ensures.answer)
+pub returns-in-Ok-None : goal.returns-in-Ok-None
+returns-in-Ok-None c =
+    let told = c.plans.invariant.told in
+    let none = rw c.in-Ok-None.field-0-is at c.in-Ok-None.ensures.served in
+    (told.0, told.1, ends_with_none _ _ _ _ _ _ c.plans.reader _ c.plans.invariant.loaded c.plans.invariant.same_sheet told.2 none.0)
 
 pub returns-in-Err : goal.returns-in-Err
 returns-in-Err c =
-    let told = c.plans.invariant.4 in
-    (told.0, told.1, ends_with_line _ _ _ _ _ _ c.plans.reader _ c.plans.invariant.0 c.plans.invariant.1 told.2 c.in-Err.why _ c.line-line.ensures c.in-Err.ensures.answer)
-
-pub returns-in-Err-serve : goal.returns-in-Err-serve
-returns-in-Err-serve c =
-    let told = c.plans.invariant.4 in
-    (told.0, told.1, ends_with_plan _ _ _ _ _ _ c.plans.reader _ c.plans.invariant.0 c.plans.invariant.1 told.2 c.in-Some.plan _ c.in-Some.is c.in-Ok.ensures.answer c.in-Err-serve.why _ c.line-line.ensures _ (serves_with _ _ _ _ 1024 c.plans.invariant.3 _ _ _ _ c.in-Err-serve.ensures.serves))
+    let told = c.plans.invariant.told in
+    let refused = rw c.plans.invariant.room at c.in-Err.ensures.served in
+    (told.0, told.1, ends_refused _ _ _ _ _ _ c.plans.reader _ c.plans.invariant.loaded c.plans.invariant.same_sheet told.2 c.in-Err.why _ c.line-line.ensures (desk_of c.serve_next.new.desk c.serve_next.new.tally) refused)
 
 pub plans-smaller : goal.plans-smaller
-plans-smaller c = less_is_left _ _ c.plans.reader c.plans.invariant.0 c.plans.invariant.1 c.in-Some.plan c.next.new.self _ c.in-Some.is c.in-Ok.ensures.answer c.in-Ok.ensures.reader
+plans-smaller c =
+    let served = rw c.in-Ok-Some.field-0-is at c.in-Ok-Some.ensures.served in
+    less_is_left _ c.plans.reader c.serve_next.new.reader c.in-Ok-Some.plan (sym served.0) c.in-Ok-Some.ensures.reader
 
 pub plans-preserved : goal.plans-preserved
 plans-preserved c =
-    let told = c.plans.invariant.4 in
-    let moved = c.in-Ok.ensures.reader in
-    let room = c.plans.invariant.3 in
-    let serves = serves_with _ _ _ _ 1024 room _ _ _ _ c.in-Ok-serve.ensures.serves in
-    let kept = fulfils_with _ _ _ _ 1024 room _ _ _ _ c.in-Ok-serve.ensures.fulfils in
-    let line = c.in_ok-tell.ensures in (
-      ap (λ (y : Reader). y.loaded) moved ∙ c.plans.invariant.0,
-      ap (λ (y : Reader). y.sheet.now) moved ∙ c.plans.invariant.1,
-      c.in-Ok-serve.ensures.same_labels ∙ c.plans.invariant.2,
-      c.in-Ok-serve.ensures.same_room ∙ room,
-      (
-        told.0 ++ plan_line c.in-Some.plan c.in-Ok-serve.verdict kept.legs,
-        text_more (vec_items c.args.text.now) _ _ told.0 _ _ told.1 line.2 (line_is _ _ _ _ _ kept line.0 (omega (arith, line.1, c.plans.invariant.2))),
-        leads_on _ _ _ _ _ _ c.plans.reader _ c.plans.invariant.0 c.plans.invariant.1 told.2 c.in-Some.plan _ c.in-Some.is c.in-Ok.ensures.answer c.next.new.self moved c.in-Ok-serve.verdict _ serves kept,
-      ),
-    )
+    let told = c.plans.invariant.told in
+    let moved = c.in-Ok-Some.ensures.reader in
+    let served = rw (c.in-Ok-Some.field-0-is, c.plans.invariant.room) at c.in-Ok-Some.ensures.served in
+    let labels : length (vec_items c.plans.desk.labels) ≡ c.plans.desk.queue.most = c.plans.desk.entries in
+    let labels' : length (vec_items c.serve_next.new.desk.labels) ≡ c.serve_next.new.desk.queue.most = c.serve_next.new.desk.entries in
+    let room : c.serve_next.new.desk.queue.most ≡ c.plans.desk.queue.most = c.in-Ok-Some.ensures.same_room in
+    let buffer : length {A = ℕ} (replicate (length (vec_items c.serve_next.new.desk.labels)) 0) ≡ length (vec_items c.serve_next.new.desk.labels) = length-replicate _ _ in
+    record {
+      loaded = ap (λ (y : Reader). y.loaded) moved ∙ c.plans.invariant.loaded;
+      same_sheet = ap (λ (y : Reader). y.sheet.now) moved ∙ c.plans.invariant.same_sheet;
+      room = c.in-Ok-Some.ensures.same_room ∙ c.plans.invariant.room;
+      told = (
+        told.0 ++ plan_line c.in-Ok-Some.plan c.in-Ok-Some.verdict served.2.legs,
+        two_pieces (vec_items c.args.text.now) (vec_items c.plans.text) _ told.0 _ told.1 (c.in_ok-push_plan-in-Ok-Some.ensures ∙ ap (λ ys. vec_items c.plans.text ++ ys) (ap (plan_line c.in-Ok-Some.plan c.in-Ok-Some.verdict) (c.deref.ensures.value ∙ c.in_ok-legs-in-Ok-Some.ensures) ∙ line_is _ _ _ _ _ served.2 (replicate (length (vec_items c.serve_next.new.desk.labels)) 0) (omega (arith, labels, labels', room, buffer)))),
+        leads_on _ _ _ _ _ _ c.plans.reader _ c.plans.invariant.loaded c.plans.invariant.same_sheet told.2 c.in-Ok-Some.plan c.in-Ok-Some.verdict (desk_of c.serve_next.new.desk c.serve_next.new.tally) served c.serve_next.new.reader moved,
+      );
+    }

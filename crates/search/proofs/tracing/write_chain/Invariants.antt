@@ -1,8 +1,9 @@
+use Rattle.std.proofs.Common.{length}
 use Rattle.search.proofs.Traces.{Laying}
 use Rattle.search.proofs.tracing.write_chain.Given as goal
 
-abbrev pub invariant-loop-place : goal.invariant-loop-place
-invariant-loop-place l = Laying l.m l.n l.labels l.found l.at l.place l.legs l.buffer l.initial.buffer
+abbrev pub invariant-loop-origin : goal.invariant-loop-origin
+invariant-loop-origin l = Laying l.m (length l.labels) l.labels l.found l.at l.place l.legs l.buffer l.initial.buffer
 
-abbrev pub decreases-loop-place : goal.decreases-loop-place
-decreases-loop-place l = l.place
+abbrev pub decreases-loop-origin : goal.decreases-loop-origin
+decreases-loop-origin l = l.place

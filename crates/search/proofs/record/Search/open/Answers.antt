@@ -1,25 +1,20 @@
-use Rattle.std.proofs.Common.{sym, rules}
-use Rattle.search.proofs.Opens.{accepted_fits, opens}
-use Rattle.search.proofs.Numbering.{refused_by_number, accepted_by_number}
+use Rattle.std.proofs.Common.{refl, rules, arith}
+use Rattle.std.proofs.lemmas.Bool.Decides.{nat_tests}
+use Rattle.network.proofs.Checking.{accepted}
+use Rattle.search.specs.Calls.{open_refusal}
+use Rattle.search.proofs.Numbering.{answered_by_number}
 use Rattle.search.proofs.record.Search.open.Goals as goal
 
-pub start-requires : goal.start-requires
-start-requires g c =
-    let fit = accepted_fits _ _ c.in_default.ensures.value in
-    record { limit_fits = fit.limit_fits; tables_fit = fit.tables_fit }
+pub start-requires-clause-limit_fits : goal.start-requires-clause-limit_fits
+unfolding open_refusal
+start-requires-clause-limit_fits g c = grind (arith, nat_tests)
 
-pub returns-in-Some : goal.returns-in-Some
-returns-in-Some g c = record {
-  answered = search rules;
-  same_room = search rules;
-  refused_by_number = refused_by_number _ _ _ (sym c.in-Some.ensures.value);
-  estimates_fit = tt;
-}
+pub start-requires-clause-tables_fit : goal.start-requires-clause-tables_fit
+unfolding open_refusal
+start-requires-clause-tables_fit g c = grind (arith, nat_tests, accepted)
 
-pub returns : goal.returns
-returns g c = record {
-  answered = opens _ _ _ _ c.in_default.ensures.value c.start.ensures.after;
-  same_room = c.start.ensures.same_room;
-  refused_by_number = accepted_by_number _ _ (sym c.in_default.ensures.value);
-  estimates_fit = record { at_start = c.start.ensures.cost_fits; at_heads = c.in_default.ensures.costs_fit };
-}
+pub returns-in_err-admit-clause-refused_by_number : goal.returns-in_err-admit-clause-refused_by_number
+returns-in_err-admit-clause-refused_by_number g c = let n = answered_by_number _ _ _ _ refl c.in_err-admit.ensures.value in search rules
+
+pub returns-clause-refused_by_number : goal.returns-clause-refused_by_number
+returns-clause-refused_by_number g c = answered_by_number _ _ _ _ refl c.in_ok-admit.ensures.value

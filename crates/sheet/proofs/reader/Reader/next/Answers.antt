@@ -1,12 +1,10 @@
-use Rattle.std.proofs.Common.{◌≡◌, Ok, Err, sym, refl, ap, ◌∙◌}
-use Rattle.std.proofs.lemmas.Result.{err_from_is_err_and}
+use Rattle.std.proofs.Common.{◌≡◌, Ok, Err, sym, refl, ap, ◌∙◌, rules}
 use Rattle.sheet.specs.Calls.{rows_left, line_shown}
 use Rattle.sheet.proofs.Loading.{next_done, next_stated}
 use Rattle.sheet.proofs.reader.Reader.next.Goals as goal
 
 pub returns-in_err-plan : goal.returns-in_err-plan
 returns-in_err-plan c =
-    let p = err_from_is_err_and c.from_residual-in_err-plan.result c.from_residual-in_err-plan.ensures.1 in
-    let q : c.from_residual-in_err-plan.result ≡ Err c.in_err-plan.field-0.0 = p.1 ∙ ap Err p.2 in
+    let q : c.from_residual-in_err-plan.result ≡ Err c.in_err-plan.field-0.0 = search rules in
     let d = next_done c.args.self.now c.args.self.now (Err c.in_err-plan.field-0.0) _ _ (next_stated c.args.self.now.loaded _ _ _ (rows_left c.args.self.now) _ _ _ (ap (λ o. line_shown (Ok o)) (sym c.in-Some.is) ∙ c.in_ok-ahead.ensures) c.in_err-plan.ensures) refl refl in
     record { answer = q ∙ d.0; reader = d.1 }

@@ -1,5 +1,4 @@
-use Rattle.std.proofs.Common.{◌≡◌, ◌+◌, ◌<◌, true, length, take, set, Some, Ok, Err, sym, refl, ap, ◌∙◌, arith, length-set}
-use Rattle.std.proofs.lemmas.Result.{err_from_is_err_and}
+use Rattle.std.proofs.Common.{◌≡◌, ◌+◌, ◌<◌, true, length, take, set, Some, Ok, Err, sym, refl, ap, ◌∙◌, arith, rules, length-set}
 use Rattle.std.proofs.lemmas.Bool.Decides.{nat_tests}
 use Rattle.sheet.specs.Sheets.{has_room, leg_stated, legs_from, one_more}
 use Rattle.sheet.specs.Words.{line_kind}
@@ -9,8 +8,7 @@ use Rattle.sheet.proofs.reader.Reader.read_legs.Goals as goal
 
 pub returns-in_err-ahead : goal.returns-in_err-ahead
 returns-in_err-ahead c =
-    let p = err_from_is_err_and c.from_residual.result c.from_residual.ensures.1 in
-    let q : c.from_residual.result ≡ Err c.in_err-ahead.field-0.0 = p.1 ∙ ap Err p.2 in
+    let q : c.from_residual.result ≡ Err c.in_err-ahead.field-0.0 = search rules in
     let d = legs_done c.args.self.now c.loop-ahead.self c.args.table.now c.loop-ahead.table c.loop-ahead.m _ _
     (legs_refused _ _ _ _ _ _ _ c.in_err-ahead.ensures ∙ c.loop-ahead.invariant.4)
     c.loop-ahead.invariant.1 c.loop-ahead.invariant.2 c.loop-ahead.invariant.3 in
@@ -18,8 +16,7 @@ returns-in_err-ahead c =
 
 pub returns-in_err-leg : goal.returns-in_err-leg
 returns-in_err-leg c =
-    let p = err_from_is_err_and c.from_residual-in_err-leg.result c.from_residual-in_err-leg.ensures.1 in
-    let q : c.from_residual-in_err-leg.result ≡ Err c.in_err-leg.field-0.0 = p.1 ∙ ap Err p.2 in
+    let q : c.from_residual-in_err-leg.result ≡ Err c.in_err-leg.field-0.0 = search rules in
     let f : c.if-m-table.free ≡ has_room (length c.args.table.now) c.loop-ahead.m = grind (arith, nat_tests) in
     let d = legs_done c.args.self.now c.loop-ahead.self c.args.table.now c.loop-ahead.table c.loop-ahead.m _ _
     (table_bad _ _ _ c.loop-ahead.self c.loop-ahead.table c.loop-ahead.invariant.1 _ _ _ (ap (λ o. line_shown (Ok o)) (sym c.in-Some.is) ∙ c.in_ok-ahead.ensures) f _ c.in_err-leg.ensures ∙ c.loop-ahead.invariant.4)
