@@ -1,10 +1,12 @@
 -- What stands on a desk. Assumes nothing.
-use Rattle.std.specs.Prelude.{ℕ, List, [], length, take, replicate, Ok, Err, vec_items, Result}
+use Rattle.std.specs.Prelude.{ℕ, List, [], length, take, replicate, None, Ok, Err, vec_items, Result}
 use Rattle.network.specs.declared.legs.Leg.{Leg}
 use Rattle.network.specs.declared.legs.Network.{Network}
 use Rattle.network.specs.declared.refusals.Refusal.{Refusal}
 use Rattle.queue.specs.Bag.{bagged}
 use Rattle.search.specs.declared.record.Search.{Search}
+use Rattle.worksheet.specs.declared.records.Label.{Label}
+use Rattle.search.specs.Record.{fresh}
 use Rattle.search.specs.Calls.{worksheet, Traced, tracing}
 use Rattle.planner.specs.declared.desk.Desk as own
 use Rattle.planner.specs.declared.tally.Tally.{Tally}
@@ -13,6 +15,13 @@ use Rattle.planner.specs.Serves.{Desk, desk}
 -- What stands on a desk, with a tally beside it.
 abbrev pub desk_of : {n : ℕ} → own.Desk n → Tally → Desk
 desk_of d t = desk d.costs d.delays (worksheet d.search (vec_items d.labels) d.least (bagged (vec_items d.queue.items))) t
+
+-- A desk as it is made: zeros for so many sites, blank label records, an empty queue, and a fresh search record.
+abbrev pub blank_label : Label
+blank_label = record { mark = record { cost = 0; delay = 0 }; site = 0; from = None }
+
+abbrev pub made : ℕ → ℕ → Tally → Desk
+made sites labels t = desk (replicate sites 0) (replicate sites 0) (worksheet fresh (replicate labels blank_label) (replicate sites 0) []) t
 
 -- How many entries it has room for; it has as many label records.
 abbrev pub room : {n : ℕ} → own.Desk n → ℕ

@@ -31,12 +31,13 @@ pub struct Desk<const SITES: usize> {
 }
 
 impl<const SITES: usize> Desk<SITES> {
-    ghost use Rattle.planner.specs.Desks.{desk_of, room, search_at, legs_at};
+    ghost use Rattle.planner.specs.Desks.{desk_of, made, room, search_at, legs_at};
 
     // A desk at which nothing was done, with so many label records and room for as many entries.
     pub fn new(heap: Global, labels: usize) -> Result<Desk<SITES>, AllocError>
         ensures room { IfOk result (λ d. room d ≡ labels) }
         ensures search { IfOk result (λ d. search_at d ≡ fresh) }
+        ensures made { IfOk result (λ d. (t : Tally) → desk_of d t ≡ made SITES labels t) }
     {
         Ok(Desk {
             costs: [0; SITES],
