@@ -4,15 +4,14 @@
 
 use report::answers::{SHEET, plan_sheet};
 use sheet::advice::advice;
-use std::io;
-use std::io::{Read, Write};
+use std::io::{self, Read};
 
-fn run(rt: &HostRuntime) -> io::Result<()> {
+fn run<R: Read + Drop>(rt: &(impl Print + Eprint + AllocGlobal), input: R) -> io::Result<()> {
     let heap = rt.alloc();
-    let mut input = Vec::new(heap);
-    rt.stdin().take(SHEET as u64).read_to_end(&mut input)?;
-    let report = plan_sheet(heap, &input)?;
-    rt.stdout().write_all(&report.text)?;
+    let mut sheet = Vec::new(heap);
+    input.take(SHEET as u64).read_to_end(&mut sheet)?;
+    let report = plan_sheet(heap, &sheet)?;
+    rt.write_all(&report.text)?;
     if let Some(refused) = report.refused {
         let line = refused.line;
         let advice = advice(&refused.why);
@@ -22,5 +21,5 @@ fn run(rt: &HostRuntime) -> io::Result<()> {
 }
 
 fn main(rt: HostRuntime) -> io::Result<()> {
-    run(&rt)
+    run(&rt, rt.stdin())
 }

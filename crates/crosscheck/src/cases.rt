@@ -62,7 +62,7 @@ fn print_case(
     let mut queue = Heap::new(heap, means.entries)?;
     let outcome = run(heap, question, means, &mut queue, &TotalFee, &Blank)?;
     let task = Task::new(heap, 0, question, Rate::Fees)?;
-    report.note(0, task.difference(means, &outcome))?;
+    report.note(0, task.check(means, &outcome))?;
     print_route(rt, name, &outcome)
 }
 

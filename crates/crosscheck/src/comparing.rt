@@ -39,53 +39,6 @@ fn drawn_means(draws: &mut Draws, question: &Question) -> [Means; 4] {
     ]
 }
 
-// Compares what a search came to.
-fn compare_search(
-    task: Task,
-    means: Means,
-    outcome: &Outcome,
-    report: &mut Report,
-) -> Result<(), AllocError> {
-    count(&mut report.searches, 1);
-    report.standings.add(outcome.verdict.standing);
-    report.note(task.seed, task.difference(means, outcome))
-}
-
-// Compares what a search came to with the one queue and with the other.
-fn compare_queues(
-    task: Task,
-    means: Means,
-    one: &Outcome,
-    other: &Outcome,
-    report: &mut Report,
-) -> Result<(), AllocError> {
-    compare_search(task, means, one, report)?;
-    compare_search(task, means, other, report)?;
-    let agree = one.verdict == other.verdict && one.route == other.route;
-    count(&mut report.pairs, 1);
-    report.note(task.seed, unless(agree, Difference::Queues))
-}
-
-// Compares the searches with one estimate, by each means and with each queue: a binary heap and a sorted row.
-fn compare_searches<T: Tariff, E: Estimate>(
-    heap: Global,
-    task: Task,
-    means: &[Means],
-    tariff: &T,
-    estimate: &E,
-    report: &mut Report,
-) -> Result<(), AllocError> {
-    let question = task.question;
-    for means in means {
-        let mut binary = Heap::new(heap, means.entries)?;
-        let mut sorted = Row::new(heap, means.entries)?;
-        let one = run(heap, question, *means, &mut binary, tariff, estimate)?;
-        let other = run(heap, question, *means, &mut sorted, tariff, estimate)?;
-        compare_queues(task, *means, &one, &other, report)?;
-    }
-    Ok(())
-}
-
 // Reach's records of a site.
 fn records(tables: &Reached, site: u16) -> Option<Figures> {
     let cost = *tables.costs.get(usize::from(site))?;
@@ -96,60 +49,101 @@ fn records(tables: &Reached, site: u16) -> Option<Figures> {
     })
 }
 
-// Whether reach's records of every site are the least over all walks.
-fn tables_agree(heap: Global, task: Task, tables: &Reached) -> Result<bool, AllocError> {
-    for site in 0..task.graph.sites {
-        let nearest = task.nearest(heap, site)?.unwrap_or(CUT_OFF);
-        if records(tables, site) != Some(nearest) {
-            return Ok(false);
+// The comparisons of a task, which a report counts.
+#[derive(Drop)]
+struct Comparison<'a> {
+    heap: Global,
+    task: Task<'a>,
+    report: &'a mut Report,
+}
+
+impl Comparison<'_> {
+    // Notes a difference, if there is one.
+    fn note(&mut self, checked: Result<(), Difference>) -> Result<(), AllocError> {
+        self.report.note(self.task.seed, checked)
+    }
+
+    // Compares what a search came to.
+    fn search(&mut self, means: Means, outcome: &Outcome) -> Result<(), AllocError> {
+        let task = self.task;
+        count(&mut self.report.searches, 1);
+        self.report.standings.add(outcome.verdict.standing);
+        self.note(task.check(means, outcome))
+    }
+
+    // Compares what a search came to with the one queue and with the other.
+    fn queues(&mut self, means: Means, one: &Outcome, other: &Outcome) -> Result<(), AllocError> {
+        self.search(means, one)?;
+        self.search(means, other)?;
+        let agree = one.verdict == other.verdict && one.route == other.route;
+        count(&mut self.report.pairs, 1);
+        self.note(ensure(agree, Difference::Queues))
+    }
+
+    // Compares the searches with one estimate, by each means and with each queue: a binary heap and a sorted row.
+    fn searches<T: Tariff, E: Estimate>(
+        &mut self,
+        means: &[Means],
+        tariff: &T,
+        estimate: &E,
+    ) -> Result<(), AllocError> {
+        let heap = self.heap;
+        let question = self.task.question;
+        for means in means {
+            let mut binary = Heap::new(heap, means.entries)?;
+            let mut sorted = Row::new(heap, means.entries)?;
+            let one = run(heap, question, *means, &mut binary, tariff, estimate)?;
+            let other = run(heap, question, *means, &mut sorted, tariff, estimate)?;
+            self.queues(*means, &one, &other)?;
         }
+        Ok(())
     }
-    Ok(true)
-}
 
-// Compares reach's tables, and notes whether the route is dearer for the limit.
-fn compare_tables(
-    heap: Global,
-    task: Task,
-    tables: &Reached,
-    report: &mut Report,
-) -> Result<(), AllocError> {
-    let without_limit = task.nearest(heap, task.question.query.start)?;
-    if let (Some(route), Some(walk)) = (task.cheapest, without_limit) {
-        report.shapes.add_route(route.cost, walk.cost);
+    // Whether reach's records of every site are the least over all walks.
+    fn tables_agree(&self, tables: &Reached) -> Result<bool, AllocError> {
+        for site in 0..self.task.graph.sites {
+            let nearest = self.task.nearest(self.heap, site)?.unwrap_or(CUT_OFF);
+            if records(tables, site) != Some(nearest) {
+                return Ok(false);
+            }
+        }
+        Ok(true)
     }
-    let agree = tables_agree(heap, task, tables)?;
-    count(&mut report.tables, 1);
-    report.note(task.seed, unless(agree, Difference::Reach))
-}
 
-// Compares reach's tables and all searches under one tariff, which is the task's rate.
-fn compare_tariff<T: Tariff>(
-    heap: Global,
-    task: Task,
-    means: &[Means],
-    tariff: &T,
-    report: &mut Report,
-) -> Result<(), AllocError> {
-    let question = task.question;
-    let goal = question.query.goal;
-    let mut costs = vec![in heap; 1; question.sites()]?;
-    let mut delays = vec![in heap; 1; question.sites()]?;
-    let _ = reach(
-        &question.network,
-        &question.legs,
-        tariff,
-        goal,
-        &mut costs,
-        &mut delays,
-    );
-    let reached = Reached {
-        costs: &costs,
-        delays: &delays,
-    };
-    compare_tables(heap, task, &reached, report)?;
-    compare_searches(heap, task, means, tariff, &Blank, report)?;
-    compare_searches(heap, task, means, tariff, &reached, report)
+    // Compares reach's tables, and notes whether the route is dearer for the limit.
+    fn tables(&mut self, tables: &Reached) -> Result<(), AllocError> {
+        let start = self.task.question.query.start;
+        let without_limit = self.task.nearest(self.heap, start)?;
+        if let (Some(route), Some(walk)) = (self.task.cheapest, without_limit) {
+            self.report.shapes.add_route(route.cost, walk.cost);
+        }
+        let agree = self.tables_agree(tables)?;
+        count(&mut self.report.tables, 1);
+        self.note(ensure(agree, Difference::Reach))
+    }
+
+    // Compares reach's tables and all searches under one tariff, which is the task's rate.
+    fn tariff<T: Tariff>(&mut self, means: &[Means], tariff: &T) -> Result<(), AllocError> {
+        let question = self.task.question;
+        let goal = question.query.goal;
+        let mut costs = vec![in self.heap; 1; question.sites()]?;
+        let mut delays = vec![in self.heap; 1; question.sites()]?;
+        let _ = reach(
+            &question.network,
+            &question.legs,
+            tariff,
+            goal,
+            &mut costs,
+            &mut delays,
+        );
+        let reached = Reached {
+            costs: &costs,
+            delays: &delays,
+        };
+        self.tables(&reached)?;
+        self.searches(means, tariff, &Blank)?;
+        self.searches(means, tariff, &reached)
+    }
 }
 
 // Compares everything for the network of a seed.
@@ -157,10 +151,18 @@ pub fn compare_network(heap: Global, seed: u32, report: &mut Report) -> Result<(
     let mut draws = Draws::new(seed);
     let question = draws.question(heap)?;
     let means = drawn_means(&mut draws, &question);
-    let by_fees = Task::new(heap, seed, &question, Rate::Fees)?;
-    compare_tariff(heap, by_fees, &means, &TotalFee, report)?;
-    let by_grades = Task::new(heap, seed, &question, Rate::Grades)?;
-    compare_tariff(heap, by_grades, &means, &WorstGrade, report)?;
+    let mut by_fees = Comparison {
+        heap,
+        task: Task::new(heap, seed, &question, Rate::Fees)?,
+        report,
+    };
+    by_fees.tariff(&means, &TotalFee)?;
+    let mut by_grades = Comparison {
+        heap,
+        task: Task::new(heap, seed, &question, Rate::Grades)?,
+        report,
+    };
+    by_grades.tariff(&means, &WorstGrade)?;
     count(&mut report.networks, 1);
     report.shapes.add_legs(&question.legs);
     Ok(())

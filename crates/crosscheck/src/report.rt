@@ -132,8 +132,8 @@ impl Report {
     }
 
     // Notes a difference, if there is one.
-    pub fn note(&mut self, seed: u32, difference: Option<Difference>) -> Result<(), AllocError> {
-        if let Some(what) = difference {
+    pub fn note(&mut self, seed: u32, checked: Result<(), Difference>) -> Result<(), AllocError> {
+        if let Err(what) = checked {
             self.findings.push(Finding { seed, what })?;
         }
         Ok(())

@@ -35,7 +35,7 @@ impl Question {
     pub fn enough_room(&self) -> usize
         ensures { result ≡ 1 + self.now.network.legs * (self.now.query.limit + 1) }
     {
-        1 + self.network.legs as usize * (self.query.limit as usize + 1)
+        1 + usize::from(self.network.legs) * (self.query.limit as usize + 1)
     }
 
     // With so many steps allowed a search has ended.

@@ -84,10 +84,11 @@ fn handover(medium: u8) -> u64
 }
 
 // The leg's delay: what is stated, and the handover delay of its medium.
+#[tactic(auto, unfolding(network::specs::Legs::leg_delay))]
 pub fn delay_of(leg: &Leg) -> u64
     ensures { result ≡ leg_delay leg.now }
 {
-    leg.stated as u64 + handover(leg.medium)
+    u64::from(leg.stated) + handover(leg.medium)
 }
 
 // The least cost of the walks from the start to each site that take exactly each delay up to the limit, in a row for each

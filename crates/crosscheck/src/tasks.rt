@@ -1,5 +1,5 @@
 // What a search for a question should come to, and where it differs.
-ghost use Rattle.std.specs.Prelude.{◌≡◌, if◌then◌else◌, Some, None};
+ghost use Rattle.std.specs.Prelude.{◌≡◌, if◌then◌else◌, Ok, Err};
 
 use crate::draws::Question;
 use crate::runs::*;
@@ -34,11 +34,11 @@ pub enum Difference {
     Reach,
 }
 
-// The difference, unless all is as it should be.
-pub fn unless(agrees: bool, difference: Difference) -> Option<Difference>
-    ensures { result ≡ (if agrees then None else Some difference) }
+// Fails by the difference, unless all is as it should be.
+pub fn ensure(agrees: bool, difference: Difference) -> Result<(), Difference>
+    ensures { result ≡ (if agrees then Ok tt else Err difference) }
 {
-    (!agrees).then_some(difference)
+    if agrees { Ok(()) } else { Err(difference) }
 }
 
 impl From<Mark> for Figures {
@@ -87,18 +87,14 @@ impl<'a> Task<'a> {
         self.graph.nearest(heap, site, self.question.query.goal)
     }
 
-    // The difference in a route that was found.
-    fn route_difference(&self, mark: Mark, route: &[u16]) -> Option<Difference> {
-        let Some(cheapest) = self.cheapest else {
-            return Some(Difference::Invented);
-        };
+    // Fails by the first difference in a route that was found.
+    fn check_route(&self, mark: Mark, route: &[u16]) -> Result<(), Difference> {
+        let cheapest = self.cheapest.ok_or(Difference::Invented)?;
         let found = Figures::from(mark);
-        if found != cheapest {
-            return Some(Difference::Figures);
-        }
+        ensure(found == cheapest, Difference::Figures)?;
         let Query { start, goal, .. } = self.question.query;
         let walk = self.graph.walk_figures(route, start, goal);
-        unless(walk == Some(found), Difference::Route)
+        ensure(walk == Some(found), Difference::Route)
     }
 
     // Room that is not enough is a reason to stop.
@@ -110,19 +106,20 @@ impl<'a> Task<'a> {
         }
     }
 
-    // The difference in what a search came to, if there is one.
-    pub fn difference(&self, means: Means, outcome: &Outcome) -> Option<Difference> {
+    // Fails by the first difference in what a search came to.
+    pub fn check(&self, means: Means, outcome: &Outcome) -> Result<(), Difference> {
         let steps = outcome.verdict.steps;
         let allowed = means.allowed();
-        if outcome.answered != steps || steps > allowed {
-            return Some(Difference::Steps);
-        }
+        ensure(
+            outcome.answered == steps && steps <= allowed,
+            Difference::Steps,
+        )?;
         match outcome.verdict.standing {
-            Standing::Fresh => Some(Difference::Refused),
-            Standing::Found(mark) => self.route_difference(mark, &outcome.route),
-            Standing::Exhausted => unless(self.cheapest.is_none(), Difference::Missed),
-            Standing::Stopped(why) => unless(self.may_stop(means, why), Difference::Stopped),
-            Standing::Open => unless(
+            Standing::Fresh => Err(Difference::Refused),
+            Standing::Found(mark) => self.check_route(mark, &outcome.route),
+            Standing::Exhausted => ensure(self.cheapest.is_none(), Difference::Missed),
+            Standing::Stopped(why) => ensure(self.may_stop(means, why), Difference::Stopped),
+            Standing::Open => ensure(
                 steps == allowed && allowed < self.question.enough_steps(),
                 Difference::Open,
             ),

@@ -1,5 +1,5 @@
 -- What answering a whole sheet puts into a buffer. Assumes nothing.
-use Rattle.std.specs.Prelude.{◌≡◌, ℕ, cond, List, ◌++◌, length, take, drop, Option, nat_lt}
+use Rattle.std.specs.Prelude.{◌≡◌, ℕ, List, ◌++◌, length, take, drop, Option, nat_lt, if◌then◌else◌}
 use Rattle.planner.specs.Tallies.{whole}
 use Rattle.report.specs.declared.lines.Refused.{Refused}
 use Rattle.report.specs.Reports.{Reports}
@@ -10,11 +10,11 @@ written n code = record { length = n; code = code }
 
 -- A buffer after a text is put at its start, if it is long enough; one that is too short stays as it was.
 abbrev pub text_put : List ℕ → List ℕ → List ℕ
-text_put text buffer = cond (nat_lt (length buffer) (length text)) buffer (text ++ drop (length text) buffer)
+text_put text buffer = if nat_lt (length buffer) (length text) then buffer else text ++ drop (length text) buffer
 
 -- The length of the text, and whether the buffer was too short for it, by code 1.
 abbrev pub put_record : List ℕ → List ℕ → Written
-put_record text buffer = cond (nat_lt (length buffer) (length text)) (written (length text) 1) (written (length text) 0)
+put_record text buffer = if nat_lt (length buffer) (length text) then written (length text) 1 else written (length text) 0
 
 -- What answering the sheet of the first 16,384 bytes answers, and the buffer after it: the text that reports on the plans is put
 -- into it; or memory is short, and it stays as it was.

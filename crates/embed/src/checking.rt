@@ -4,10 +4,11 @@ ghost use Rattle.sheet.specs.Check.{checked};
 ghost use Rattle.embed.specs.Records.{check_record};
 
 use network::legs::*;
+use network::limits::MOST_LEGS;
 use sheet::check::check_sheet;
 
-// How many legs there is room for.
-pub(crate) const LEGS: usize = 4_096;
+// There is room for as many legs as a network may have.
+pub(crate) const LEGS: usize = MOST_LEGS as usize;
 
 // What checking a sheet comes to. The number is 0 for a sound sheet, which has so many sites, legs and plans; otherwise it
 // is the number of the first refusal, and the line is the one at fault.

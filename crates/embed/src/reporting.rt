@@ -14,6 +14,13 @@ pub struct Written {
     pub code: u8,
 }
 
+// How a text was put, each with its code.
+enum Code {
+    There = 0,
+    BufferShort = 1,
+    MemoryShort = 2,
+}
+
 // Puts a text at the start of a buffer that is long enough, and leaves the rest of it; a shorter one stays as it was.
 fn put_text(text: &[u8], output: &mut [u8]) -> Written
     ensures answer { result ≡ put_record text.now output.old }
@@ -21,10 +28,16 @@ fn put_text(text: &[u8], output: &mut [u8]) -> Written
 {
     let length = text.len();
     if length > output.len() {
-        return Written { length, code: 1 };
+        return Written {
+            length,
+            code: Code::BufferShort as u8,
+        };
     }
     output[..length].copy_from_slice(text);
-    Written { length, code: 0 }
+    Written {
+        length,
+        code: Code::There as u8,
+    }
 }
 
 // Answers the plans of the sheet that the first 16,384 bytes are, by the text that the batch program writes, and puts it
@@ -34,7 +47,10 @@ pub extern "C" fn deqibur_plan_sheet(heap: Global, sheet: &[u8], output: &mut [u
     ensures { Answered sheet.now output.old output.new result }
 {
     let Ok(report) = plan_sheet(heap, sheet) else {
-        return Written { length: 0, code: 2 };
+        return Written {
+            length: 0,
+            code: Code::MemoryShort as u8,
+        };
     };
     put_text(&report.text, output)
 }

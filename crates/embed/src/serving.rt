@@ -4,11 +4,12 @@ ghost use Rattle.network.specs.Tariffs.{total_fee};
 ghost use Rattle.planner.specs.Serves.{ground};
 ghost use Rattle.planner.specs.Desks.{desk_of, room};
 ghost use Rattle.planner.specs.Tallies.{allowing};
-ghost use Rattle.embed.specs.Answers.{plan_of, refusal_record, verdict_record};
+ghost use Rattle.embed.specs.Answers.{plan_of, memory_short, refusal_record, verdict_record};
 ghost use Rattle.embed.specs.Requests.{Served, PlanAnswered, Answers};
 
 use crate::checking::LEGS;
 use network::legs::*;
+use network::limits::MOST_SITES;
 use network::plans::Plan;
 use network::refusals::Refusal;
 use network::tariffs::TotalFee;
@@ -45,6 +46,16 @@ pub struct Answer {
     pub number: u8,
 }
 
+// The outcomes, each with its number in an answer.
+enum Outcome {
+    None = 0,
+    Route = 1,
+    Open = 2,
+    Stopped = 3,
+    Refused = 4,
+    MemoryShort = 5,
+}
+
 // The plan that a request puts, for broker 0.
 impl From<Request> for Plan {
     ghost from_gives = { λ request plan. plan ≡ plan_of request };
@@ -65,7 +76,7 @@ impl From<Refusal> for Answer {
     fn from(why: Refusal) -> Answer {
         Answer {
             line: why.line().unwrap_or(0),
-            outcome: 4,
+            outcome: Outcome::Refused as u8,
             number: why.number(),
             ..Answer::default()
         }
@@ -76,25 +87,47 @@ impl From<Verdict> for Answer {
     ghost from_gives = { λ verdict answer. answer ≡ verdict_record verdict.steps verdict.standing };
 
     fn from(verdict: Verdict) -> Answer {
-        let (outcome, mark, number) = match verdict.standing {
-            Standing::Exhausted => (0, Mark::default(), 0),
-            Standing::Found(mark) => (1, mark, 0),
-            Standing::Fresh | Standing::Open => (2, Mark::default(), 0),
-            Standing::Stopped(why) => (3, Mark::default(), why.number()),
-        };
-        Answer {
+        let told = Answer {
             steps: verdict.steps,
-            cost: mark.cost,
-            delay: mark.delay,
-            outcome,
-            number,
+            ..Answer::default()
+        };
+        match verdict.standing {
+            Standing::Exhausted => Answer {
+                outcome: Outcome::None as u8,
+                ..told
+            },
+            Standing::Found(Mark { cost, delay }) => Answer {
+                cost,
+                delay,
+                outcome: Outcome::Route as u8,
+                ..told
+            },
+            Standing::Fresh | Standing::Open => Answer {
+                outcome: Outcome::Open as u8,
+                ..told
+            },
+            Standing::Stopped(why) => Answer {
+                outcome: Outcome::Stopped as u8,
+                number: why.number(),
+                ..told
+            },
+        }
+    }
+}
+
+impl From<AllocError> for Answer {
+    ghost from_gives = { λ _ answer. answer ≡ memory_short };
+
+    fn from(_: AllocError) -> Answer {
+        Answer {
+            outcome: Outcome::MemoryShort as u8,
             ..Answer::default()
         }
     }
 }
 
-// How many sites the desk has tables for.
-const SITES: usize = 1_024;
+// The desk has tables for as many sites as a network may have.
+const SITES: usize = MOST_SITES as usize;
 
 // Serves a request at a desk by the total fee, from a tally of its steps.
 fn serve_at(
@@ -140,9 +173,5 @@ pub extern "C" fn deqibur_serve(heap: Global, sheet: &[u8], request: &Request, a
     if let Err(why) = reader.load(&mut network, &mut table) {
         return why.into();
     }
-    let short = Answer {
-        outcome: 5,
-        ..Answer::default()
-    };
-    serve_times(heap, *request, again, &network, &table).unwrap_or(short)
+    serve_times(heap, *request, again, &network, &table).unwrap_or_else(Answer::from)
 }

@@ -6,20 +6,18 @@ use Rattle.network.specs.Checks.{first_failing, network_refusal}
 use Rattle.network.specs.Legs.{leg_delay}
 use Rattle.queue.specs.Bag.{insert}
 use Rattle.search.specs.Calls.{open_refusal, run, chain_from}
-use Rattle.figures.specs.Figures.{Case, searches, reaches, takes, cases, ComesOut, EveryCaseComesOut}
+use Rattle.figures.specs.Figures.{Case, searches, cases, ComesOut, EveryCaseComesOut}
 use Rattle.figures.proofs.Ending.{ComputesAnywhere, search_comes_out, laid}
 use Rattle.figures.proofs.Reaching.{fees_come_out, grades_come_out}
 
 -- what there is to show of a case
 abbrev ToShow : Case → Type 0
 ToShow (searches c) = ComputesAnywhere c
-ToShow (reaches terms goal costs delays) = ComesOut (reaches terms goal costs delays)
-ToShow (takes stated medium delay) = ComesOut (takes stated medium delay)
+ToShow c = ComesOut c
 
 shown : (c : Case) → ToShow c → ComesOut c
 shown (searches c) h = search_comes_out c h
-shown (reaches terms goal costs delays) h = h
-shown (takes stated medium delay) h = h
+shown c h = h
 
 infixr 5 ◌then◌
 -- one case after the other

@@ -1,5 +1,5 @@
 -- A search that has ended stays as it is, so that a case is settled by a run of as many steps as it makes. Assumes nothing.
-use Rattle.std.proofs.Common.{◌≡◌, ℕ, zero, suc, ◌+◌, ◌≤◌, Bool, true, false, cond, List, ◌++◌, length, drop, Some, Ok, Result, sym, refl, ap, ◌∙◌, subst, arith}
+use Rattle.std.proofs.Common.{◌≡◌, ℕ, zero, suc, ◌+◌, ◌≤◌, Bool, true, false, cond, List, ◌++◌, length, drop, Some, Ok, Result, sym, ap, ◌∙◌, subst, arith}
 use Rattle.std.proofs.lemmas.Bool.{cond-true, le-leb}
 use Rattle.network.specs.declared.refusals.Refusal.{Refusal}
 use Rattle.worksheet.specs.declared.records.Label.{Label}
@@ -13,8 +13,7 @@ use Rattle.figures.proofs.Rows.{Rows, rows}
 -- a run of more steps than the search makes comes to the same
 module _ (p : Problem) where
   by_phase : (more fewer here : Run) (going : Bool) → (is_open fewer.after.phase ≡ false → more ≡ fewer) → is_open (cond going fewer here).after.phase ≡ false → cond going more here ≡ cond going fewer here
-  by_phase more fewer here true ih shut = ih shut
-  by_phase more fewer here false ih shut = refl
+  by_phase more fewer here going ih shut = grind arith
 
   run_on : (n k made : ℕ) (s : State) → n ≤ k → is_open (run p n made s).after.phase ≡ false → run p k made s ≡ run p n made s
   unfolding run
@@ -42,7 +41,7 @@ computed s o (ends_after steps written how) h = (
 
 -- the worksheet w with other label records and least-delay records
 abbrev with_tables : Worksheet → List Label → List ℕ → Worksheet
-with_tables w labels least = record { query = w.query; state = record { labels = labels; count = w.state.count; least = least; bag = w.state.bag; phase = w.state.phase; steps = w.state.steps } }
+with_tables w labels least = record w { state = record w.state { labels = labels; least = least } }
 
 abbrev On : SearchCase → Worksheet → List Label → List ℕ → Type 0
 On c w labels least =

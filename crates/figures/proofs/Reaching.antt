@@ -1,58 +1,24 @@
 -- What a reach writes over network A, from the passes over its legs. Assumes nothing.
-use Rattle.std.proofs.Common.{◌≡◌, ℕ, zero, suc, ◌<◌, ◌≤◌, true, false, leb, List, ◌++◌, length, get_or, take, drop, set, replicate, None, Ok, sym, refl, ap, ◌∙◌, subst₂, arith}
+use Rattle.std.proofs.Common.{◌≡◌, ℕ, ◌<◌, ◌≤◌, true, false, leb, List, ◌++◌, length, get_or, take, drop, set, replicate, None, Ok, sym, refl, ap, ◌∙◌, subst₂, arith}
+use Rattle.std.proofs.ByRecursion.{All-get_or}
 use Rattle.std.proofs.lemmas.List.{ext_get_or, get_or-take, get_or_append_left, length-take-le, take-append-drop, drop_at}
 use Rattle.std.proofs.lemmas.Bool.{and_from, le-leb}
+use Rattle.network.specs.contracts.tariffs.TotalFeeTariff.TheImpl.Laws as fees
+use Rattle.network.specs.contracts.tariffs.WorstGradeTariff.TheImpl.Laws as grades
 use Rattle.network.specs.declared.refusals.Refusal.TheVariants as why
 use Rattle.network.specs.Checks.{answer_by, unless, first_failing, network_refusal}
 use Rattle.network.specs.Legs.{leg_in_range, leg_delay}
 use Rattle.network.specs.Tariffs.{Terms, Lawful, total_fee, worst_grade}
 use Rattle.network.specs.Walks.{Graph, graph, no_leg}
 use Rattle.reach.specs.Passes.{Tables, passed, changes}
-use Rattle.reach.specs.Reaches.{largest_cost, largest_delay, Nearest, reached, cut_off, Written, reach_refusal}
+use Rattle.reach.specs.Reaches.{largest_cost, largest_delay, Nearest, Written, reach_refusal}
+use Rattle.reach.proofs.Records.{nearest_is_unique}
 use Rattle.reach.proofs.Settling.{turn_starts, turn_keeps, turn_ends}
 use Rattle.figures.specs.Figures.{network_a, legs_a, fees_to_3, grades_to_3, delays_to_3, reaches, ComesOut}
 
--- both tariffs keep the laws
-total_fee_is_lawful : Lawful total_fee
-total_fee_is_lawful = record {
-  prices = λ fee grade h k. omega arith;
-  joins = λ a b h k. omega arith;
-  zero_left = λ a h. omega arith;
-  zero_right = λ a h. omega arith;
-  associative = λ a b c h k l. omega arith;
-  ordered_left = λ a b c h k l. omega arith;
-  ordered_right = λ a b c h k l. omega arith;
-}
-
-worst_grade_is_lawful : Lawful worst_grade
-worst_grade_is_lawful = record {
-  prices = λ fee grade h k. omega arith;
-  joins = λ a b h k. omega arith;
-  zero_left = λ a h. omega arith;
-  zero_right = λ a h. omega arith;
-  associative = λ a b c h k l. omega arith;
-  ordered_left = λ a b c h k l. omega arith;
-  ordered_right = λ a b c h k l. omega arith;
-}
-
 -- every leg of network A is in range
 legs_in_range : (j : ℕ) → j < length legs_a → leg_in_range 4 (get_or legs_a j no_leg) ≡ true
-legs_in_range zero h = refl
-legs_in_range (suc zero) h = refl
-legs_in_range (suc (suc zero)) h = refl
-legs_in_range (suc (suc (suc zero))) h = refl
-legs_in_range (suc (suc (suc (suc zero)))) h = refl
-legs_in_range (suc (suc (suc (suc (suc j))))) h = absurd (omega arith)
-
--- a site has one pair of records
-same_records : (g : Graph) (u goal c d c' d' : ℕ) → Nearest g u goal c d → Nearest g u goal c' d' → (c ≡ c') × (d ≡ d')
-same_records g u goal c d c' d' (reached a b l) (reached a' b' l') = (
-  omega (arith, a.least a'.walk a'.leads, a'.least a.walk a.leads, a.has, a'.has),
-  omega (arith, b.least b'.walk b'.leads, b'.least b.walk b.leads, b.has, b'.has),
-)
-same_records g u goal c d c' d' (reached a b l) (cut_off none ec ed) = absurd (none a.walk a.leads)
-same_records g u goal c d c' d' (cut_off none ec ed) (reached a b l) = absurd (none a.walk a.leads)
-same_records g u goal c d c' d' (cut_off none ec ed) (cut_off none' ec' ed') = (ec ∙ sym ec', ed ∙ sym ed')
+legs_in_range j h = All-get_or (λ leg. leg_in_range 4 leg ≡ true) legs_a j no_leg h (refl, (refl, (refl, (refl, (refl, tt)))))
 
 -- tables with a record for each site are accepted
 accepted : (m n : ℕ) → 4 ≤ m → 4 ≤ n → answer_by (reach_refusal network_a legs_a 3 m n) ≡ Ok tt
@@ -104,8 +70,8 @@ module _ (t : Terms) (lawful : Lawful t) where
       writes_no_other : (costs' delays' : List ℕ) → 4 ≤ length costs' → 4 ≤ length delays' → Written g 4 3 costs₀ delays₀ costs' delays'
           → (costs' ≡ costs ++ drop 4 costs₀) × (delays' ≡ delays ++ drop 4 delays₀)
       writes_no_other costs' delays' long_costs long_delays w = (
-        by_front costs costs' four_costs long_costs (λ u h. (same_records g u 3 _ _ _ _ (w.nearest u h) (nearest u h)).0) ∙ ap (λ rest. costs ++ rest) w.other_costs,
-        by_front delays delays' four_delays long_delays (λ u h. (same_records g u 3 _ _ _ _ (w.nearest u h) (nearest u h)).1) ∙ ap (λ rest. delays ++ rest) w.other_delays,
+        by_front costs costs' four_costs long_costs (λ u h. (nearest_is_unique g u 3 _ _ _ _ (w.nearest u h) (nearest u h)).0) ∙ ap (λ rest. costs ++ rest) w.other_costs,
+        by_front delays delays' four_delays long_delays (λ u h. (nearest_is_unique g u 3 _ _ _ _ (w.nearest u h) (nearest u h)).1) ∙ ap (λ rest. delays ++ rest) w.other_delays,
       )
 
     pub reach_comes_out : length costs ≡ 4 → length delays ≡ 4 → ComesOut (reaches t 3 costs delays)
@@ -120,8 +86,8 @@ module _ (t : Terms) (lawful : Lawful t) where
 -- the records of network A under the two tariffs
 pub fees_come_out : ComesOut (reaches total_fee 3 fees_to_3 delays_to_3)
 unfolding passed changes leg_delay
-fees_come_out = reach_comes_out total_fee total_fee_is_lawful fees_to_3 delays_to_3 refl refl refl refl
+fees_come_out = reach_comes_out total_fee (fees.lawful-law record {}) fees_to_3 delays_to_3 refl refl refl refl
 
 pub grades_come_out : ComesOut (reaches worst_grade 3 grades_to_3 delays_to_3)
 unfolding passed changes leg_delay
-grades_come_out = reach_comes_out worst_grade worst_grade_is_lawful grades_to_3 delays_to_3 refl refl refl refl
+grades_come_out = reach_comes_out worst_grade (grades.lawful-law record {}) grades_to_3 delays_to_3 refl refl refl refl

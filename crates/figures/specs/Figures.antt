@@ -129,8 +129,7 @@ Tells (stopped number) s = (why : Stop) × (s ≡ standing.Stopped why) × (stop
 -- Trace writes the route at the start of any buffer that is long enough; without a route it is refused by 14.
 abbrev pub Traces : Ending → (List ℕ → Traced) → Type 0
 Traces (found cost delay route) trace = (buffer : List ℕ) → length route ≤ length buffer → trace buffer ≡ traced (Ok (length route)) (route ++ drop (length route) buffer)
-Traces none trace = (buffer : List ℕ) → RefusedBy 14 None (trace buffer).answer
-Traces (stopped number) trace = (buffer : List ℕ) → RefusedBy 14 None (trace buffer).answer
+Traces how trace = (buffer : List ℕ) → RefusedBy 14 None (trace buffer).answer
 
 -- An advance has ended the search in this way, with so many steps and labels.
 pub record Ended (steps written : ℕ) (how : Ending) (o : Outcome (Result ℕ Refusal)) : Type 0 where

@@ -2,6 +2,7 @@
 ghost use Rattle.figures.specs.Figures.{EveryCaseComesOut};
 
 // Every case of the table comes out as the table has it.
+#[tactic(auto, using(crate::proofs::Cases::every_case_comes_out))]
 pub fn every_case_comes_out() -> u8
     ensures { EveryCaseComesOut }
 {

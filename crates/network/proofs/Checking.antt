@@ -1,5 +1,5 @@
 -- The ways through the tests of a network, and what passing them tells. Assumes nothing.
-use Rattle.std.proofs.Common.{◌≡◌, ℕ, ◌<◌, ◌≤◌, Bool, true, false, List, length, get_or, Some, None, Ok, Err, Option, refl, ap, ◌∙◌, arith}
+use Rattle.std.proofs.Common.{◌≡◌, ℕ, ◌<◌, ◌≤◌, Bool, true, false, List, length, get_or, Some, None, Ok, Err, Option, ap, ◌∙◌, arith}
 use Rattle.std.proofs.lemmas.Bool.Decides.{nat_tests}
 use Rattle.network.specs.declared.legs.Leg.{Leg}
 use Rattle.network.specs.declared.legs.Network.{Network}
@@ -23,15 +23,11 @@ module _ (net : Network) (table : List Leg) where
 -- the tests of the network come first, and what follows counts only where they pass
 by_tests : (s : Bool) (f : Option ℕ) (rest : Option Refusal) (w : Refusal)
     → Some w ≡ unless s why.Size (unless_leg why.LegRange f None) → Some w ≡ unless s why.Size (unless_leg why.LegRange f rest)
-by_tests true (Some j) rest w e = e
-by_tests true None rest w e = cc
-by_tests false f rest w e = e
+by_tests s f rest w e = grind arith
 
 past_tests : (s : Bool) (f : Option ℕ) (rest : Option Refusal)
     → None ≡ unless s why.Size (unless_leg why.LegRange f None) → rest ≡ unless s why.Size (unless_leg why.LegRange f rest)
-past_tests true (Some j) rest e = cc
-past_tests true None rest e = refl
-past_tests false f rest e = cc
+past_tests s f rest e = grind arith
 
 module _ (net : Network) (table : List Leg) (rest : Option Refusal) where
   pub refused_first : (w : Refusal) → Some w ≡ network_refusal net table None → Some w ≡ network_refusal net table rest
@@ -44,12 +40,10 @@ module _ (net : Network) (table : List Leg) (rest : Option Refusal) where
 
 -- what an answer tells of the refusal
 pub not_refused : (o : Option Refusal) → Ok tt ≡ answer_by o → None ≡ o
-not_refused None e = refl
-not_refused (Some w) e = cc
+not_refused o e = grind arith
 
 pub refused_by : (o : Option Refusal) (w : Refusal) → Err w ≡ answer_by o → Some w ≡ o
-refused_by None w e = cc
-refused_by (Some v) w e = let z : w ≡ v = cc in ap Some z
+refused_by o w e = grind arith
 
 -- what a network that passes has
 pub record Sound (net : Network) (table : List Leg) : Type 0 where
@@ -60,9 +54,7 @@ pub record Sound (net : Network) (table : List Leg) : Type 0 where
   pub in_range : (j : ℕ) (d : Leg) → j < length (legs_of net table) → leg_in_range net.sites (get_or (legs_of net table) j d) ≡ true
 
 passed : (s : Bool) (f : Option ℕ) (rest : Option Refusal) → None ≡ unless s why.Size (unless_leg why.LegRange f rest) → (s ≡ true) × (None ≡ f) × (None ≡ rest)
-passed true (Some j) rest e = cc
-passed true None rest e = (refl, refl, e)
-passed false f rest e = cc
+passed s f rest e = (grind arith, grind arith, grind arith)
 
 pub accepted : (net : Network) (table : List Leg) (rest : Option Refusal) → None ≡ network_refusal net table rest → Sound net table × (None ≡ rest)
 unfolding network_refusal
@@ -74,7 +66,10 @@ accepted net table rest e =
         few_sites = grind (arith, nat_tests);
         few_legs = grind (arith, nat_tests);
         stand = grind (arith, nat_tests);
-        in_range = all_pass (leg_in_range net.sites) 0 (legs_of net table) p.1;
+        in_range = all_pass (leg_in_range net.sites) (legs_of net table) p.1;
       },
       p.2,
     )
+
+-- The tests of a network and what follows them, one after the other.
+pub ruleset test_by_test = (nat_tests, refused_first, refused_later)

@@ -1,5 +1,6 @@
 -- When a network and its leg table are refused. Assumes nothing.
-use Rattle.std.specs.Prelude.{ℕ, ◌+◌, Bool, cond, ◌&&◌, List, [], ◌∷◌, length, take, Some, None, Ok, Err, Option, Result, nat_le}
+use Rattle.std.specs.Prelude.{ℕ, Bool, not, ◌&&◌, List, length, take, Some, None, Ok, Err, Option, Result, nat_le, if◌then◌else◌}
+use Rattle.std.specs.List.{position_from}
 use Rattle.network.specs.declared.legs.Leg.{Leg}
 use Rattle.network.specs.declared.legs.Network.{Network}
 use Rattle.network.specs.declared.refusals.Refusal.{Refusal}
@@ -17,8 +18,7 @@ legs_of net table = take net.legs table
 
 -- The number of the first leg, counted from i, that does not pass.
 unfoldable pub first_failing : (Leg → Bool) → ℕ → List Leg → Option ℕ
-first_failing passes i [] = None
-first_failing passes i (leg ∷ legs) = cond (passes leg) (first_failing passes (i + 1) legs) (Some i)
+first_failing passes i legs = position_from (λ leg. not (passes leg)) i legs
 
 -- There are 1 to 1,024 sites and 0 to 4,096 legs, all of them in the table.
 abbrev pub sizes_fit : Network → ℕ → Bool
@@ -31,7 +31,7 @@ unless_leg why (Some j) rest = Some (why j)
 
 -- Refusal where a test fails.
 abbrev pub unless : Bool → Refusal → Option Refusal → Option Refusal
-unless passed why rest = cond passed rest (Some why)
+unless passed why rest = if passed then rest else Some why
 
 -- The sizes, then the first leg with a field outside its range, then what else there is to refuse. (A call with a limit of its
 -- own tests that before, since it has the number of the sizes.)

@@ -1,5 +1,5 @@
 -- Estimates: what the delivered ones mean, and when an estimate is lawful. Assumes nothing.
-use Rattle.std.specs.Prelude.{◌≡◌, ℕ, ◌+◌, ◌<◌, Bool, true, false, cond, not, ◌&&◌, List, length, Some, None, Option, ◌==◌, nat_le, nat_lt, slice_index}
+use Rattle.std.specs.Prelude.{◌≡◌, ℕ, ◌+◌, ◌<◌, Bool, true, false, not, ◌&&◌, List, length, Some, None, Option, ◌==◌, nat_le, nat_lt, slice_index, if◌then◌else◌}
 use Rattle.network.specs.declared.legs.Leg.{Leg}
 use Rattle.network.specs.declared.estimates.Bound.{Bound}
 use Rattle.network.specs.Walks.{Graph, leg_at}
@@ -15,8 +15,8 @@ blank_at site = Some nothing_left
 -- The estimate that two tables make. The delay 4,294,967,295 marks a site that is cut off, and so is a site beyond either table.
 abbrev pub tables_at : List ℕ → List ℕ → ℕ → Option Bound
 tables_at costs delays site =
-    cond (nat_lt site (length costs) && (nat_lt site (length delays) && not (slice_index delays site == 4294967295)))
-    (Some (record { cost = slice_index costs site; delay = slice_index delays site })) None
+    if (nat_lt site (length costs) && (nat_lt site (length delays) && not (slice_index delays site == 4294967295)))
+    then Some (record { cost = slice_index costs site; delay = slice_index delays site }) else None
 
 -- The rules for a leg, by what the estimate has at its tail and at its head. If its tail is cut off, its head is. If both
 -- have pairs, the tail's cost is at most the leg's price joined with the head's cost, and the tail's delay at most the

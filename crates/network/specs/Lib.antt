@@ -1,4 +1,5 @@
 pub mod Legs
+pub mod Plans
 pub mod Refusals
 pub mod Tariffs
 pub mod Walks

@@ -4,6 +4,7 @@ ghost use Rattle.network.specs.Legs.{leg_in_range};
 ghost use Rattle.network.specs.Checks.{answer_by, first_failing, network_refusal, sizes_fit};
 
 use crate::legs::*;
+use crate::limits::*;
 use crate::refusals::Refusal;
 
 // The number of the first leg with a field outside its range.
@@ -20,7 +21,9 @@ impl Network {
     fn sizes_fit(&self, table: usize) -> bool
         ensures { result ≡ sizes_fit self.now table }
     {
-        (1..=1024).contains(&self.sites) && self.legs <= 4096 && self.legs as usize <= table
+        (1..=MOST_SITES).contains(&self.sites)
+            && self.legs <= MOST_LEGS
+            && usize::from(self.legs) <= table
     }
 
     // Why the network with its leg table is refused, if it is: its sizes, or the first of its legs with a field outside its range.
@@ -30,7 +33,7 @@ impl Network {
         if !self.sizes_fit(table.len()) {
             return Some(Refusal::Size);
         }
-        first_out_of_range(&table[..self.legs as usize], self.sites).map(Refusal::LegRange)
+        first_out_of_range(self.legs_in(table), self.sites).map(Refusal::LegRange)
     }
 
     // The same as an error.

@@ -43,8 +43,8 @@ impl<'a> Estimate for Reached<'a> {
     ghost at = { λ e. tables_at e.costs.now e.delays.now };
 
     fn at(&self, site: u16) -> Option<Bound> {
-        let cost = *self.costs.get(site as usize)?;
-        let delay = *self.delays.get(site as usize)?;
+        let cost = *self.costs.get(usize::from(site))?;
+        let delay = *self.delays.get(usize::from(site))?;
         (delay != u32::MAX).then_some(Bound { cost, delay })
     }
 }

@@ -1,6 +1,9 @@
 // Legs and the network that they make.
-ghost use Rattle.std.specs.Prelude.{◌≡◌, ◌^◌, ◌<◌, ◌≤◌};
+ghost use Rattle.std.specs.Prelude.{◌≡◌, ◌^◌, ◌<◌, ◌≤◌, length};
 ghost use Rattle.network.specs.Legs.{handover as handover_of, leg_delay, leg_in_range};
+ghost use Rattle.network.specs.Checks.{legs_of};
+
+use crate::limits::*;
 
 // The extra delay of handing over to the equipment of each medium, in microseconds.
 const HANDOVERS: [u32; 8] = [0, 5, 12, 20, 35, 60, 90, 150];
@@ -29,7 +32,7 @@ fn handover(medium: u8) -> u32
     ensures value { result ≡ handover_of medium }
     ensures bound { result ≤ 150 }
 {
-    HANDOVERS.get(medium as usize).copied().unwrap_or(0)
+    HANDOVERS.get(usize::from(medium)).copied().unwrap_or(0)
 }
 
 impl Leg {
@@ -38,7 +41,7 @@ impl Leg {
         ensures value { result ≡ leg_delay self.now }
         ensures bound { result < 2 ^ 33 }
     {
-        self.stated as u64 + handover(self.medium) as u64
+        u64::from(self.stated) + u64::from(handover(self.medium))
     }
 
     // Each field is in its range, the two sites being below `sites`.
@@ -47,9 +50,19 @@ impl Leg {
     {
         self.tail < sites
             && self.head < sites
-            && self.fee <= 1_000_000
-            && self.grade <= 255
-            && self.stated <= 100_000
-            && self.medium <= 7
+            && self.fee <= MOST_FEE
+            && self.grade <= WORST_GRADE
+            && self.stated <= MOST_DELAY
+            && self.medium <= LAST_MEDIUM
+    }
+}
+
+impl Network {
+    // The network's legs: the front of their table, and all of it where it is too short.
+    pub fn legs_in<'a>(&self, table: &'a [Leg]) -> &'a [Leg]
+        ensures legs { result.now ≡ legs_of self.now table.now }
+        ensures few { length result.now < 2 ^ 16 }
+    {
+        &table[..usize::from(self.legs).min(table.len())]
     }
 }

@@ -4,6 +4,7 @@
 pub mod checks;
 pub mod estimates;
 pub mod legs;
+pub mod limits;
 pub mod plans;
 pub mod refusals;
 pub mod tariffs;

@@ -50,15 +50,15 @@ pub enum Refusal {
     BufferShort,
 }
 
-// Why a step stops the search.
+// Why a step stops the search, with the number that stands for it in every format.
 #[derive(Clone, Copy, PartialEq, Eq, Debug)]
 pub enum Stop {
     // A number leads outside its table.
-    Outside,
+    Outside = 15,
     // All label records are used, and one more is due.
-    LabelsUsed,
+    LabelsUsed = 16,
     // The queue holds its capacity, and one more entry is due.
-    QueueFull,
+    QueueFull = 17,
 }
 
 impl Refusal {
@@ -119,10 +119,6 @@ impl Stop {
     pub fn number(&self) -> u8
         ensures { result ≡ stop_number_of self.now }
     {
-        match self {
-            Stop::Outside => 15,
-            Stop::LabelsUsed => 16,
-            Stop::QueueFull => 17,
-        }
+        *self as u8
     }
 }

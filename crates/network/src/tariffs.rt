@@ -30,7 +30,7 @@ impl Tariff for TotalFee {
     ghost lawful = { Prim.search rules };
 
     fn price(&self, fee: u32, _grade: u8) -> u64 {
-        fee as u64
+        u64::from(fee)
     }
 
     fn join(&self, a: u64, b: u64) -> u64 {
@@ -48,7 +48,7 @@ impl Tariff for WorstGrade {
     ghost lawful = { Prim.search rules };
 
     fn price(&self, _fee: u32, grade: u8) -> u64 {
-        grade as u64
+        u64::from(grade)
     }
 
     fn join(&self, a: u64, b: u64) -> u64 {

@@ -22,7 +22,7 @@ use Rattle.planner.proofs.Fulfilling.{run_on, advanced_on, open_is_accepted, adv
 
 -- A refused open changes nothing.
 refusal_keeps : (s : Setting) (q : Query) (w u : Worksheet) (why : Refusal) (o : Option Refusal) → outcome (Err why) u ≡ open_decided s q o w → u ≡ w
-refusal_keeps s q w u why None e = let z = ap (λ (x : Outcome (Result Unit Refusal)). x.answer) e in let y : ◌≡◌ {A = ℕ} 0 1 = cc in absurd (omega arith)
+refusal_keeps s q w u why None e = let z = ap (λ (x : Outcome (Result Unit Refusal)). x.answer) e in cc
 refusal_keeps s q w u why (Some r) e = ap (λ (x : Outcome (Result Unit Refusal)). x.after) e
 
 module _ (g : Ground) (p : Plan) (d : Desk) where

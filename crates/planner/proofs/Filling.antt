@@ -10,7 +10,7 @@ use Rattle.worksheet.specs.declared.records.Label.{Label}
 use Rattle.worksheet.specs.declared.records.Mark.{Mark}
 use Rattle.worksheet.specs.declared.records.Origin.{Origin}
 use Rattle.worksheet.specs.declared.records.Phase.{Phase}
-use Rattle.worksheet.specs.declared.records.Phase.TheVariants.{Fresh, Open, Found, Exhausted, Stopped}
+use Rattle.worksheet.specs.declared.records.Phase.TheVariants.{Open, Stopped}
 use Rattle.worksheet.specs.Problem.{Problem}
 use Rattle.worksheet.specs.Steps.{State, label_at, is_open, with_bag, dominated, write, child, try_room, try_new, try_fit, try_head, try_leg, try, expand, settle, arrive, take_new, inside, take_inside, step_from, tick, opened}
 use Rattle.worksheet.specs.Traces.{traced, trace}
@@ -25,11 +25,8 @@ Filled p s LabelsUsed = length s.labels ≤ s.count
 Filled p s QueueFull = p.capacity ≤ length s.bag
 
 abbrev pub FilledIn : Problem → State → Phase → Type 0
-FilledIn p s Fresh = Unit {0}
-FilledIn p s Open = Unit {0}
-FilledIn p s (Found i m) = Unit {0}
-FilledIn p s Exhausted = Unit {0}
 FilledIn p s (Stopped why) = Filled p s why
+FilledIn p s q = Unit {0}
 
 abbrev Filling : Problem → State → Type 0
 Filling p s = FilledIn p s s.phase
@@ -59,8 +56,7 @@ module _ (p : Problem) where
 
   leg_filling : (i : ℕ) (l : Label) (j : ℕ) (leg : Leg) (s : State) → Filling p s → (b c : Bool) → is_open s.phase ≡ b → Filling p (try_leg p i l j leg s (b && c))
   leg_filling i l j leg s h true true e = head_filling (child p i l j leg) s (open_told s.phase e) (p.at leg.head)
-  leg_filling i l j leg s h true false e = h
-  leg_filling i l j leg s h false c e = h
+  leg_filling i l j leg s h b c e = h
 
   expand_filling : (i : ℕ) (l : Label) (j : ℕ) (legs : List Leg) (s : State) → Filling p s → Filling p (expand p i l j legs s)
   expand_filling i l j [] s h = h

@@ -1,14 +1,13 @@
 -- What an accepted open vouches for. Assumes nothing.
-use Rattle.std.proofs.Common.{◌≡◌, ℕ, ◌<◌, Bool, true, false, eqb, ltb, leb, [], length, get_or, Some, None, Option, sym, refl, ap, ◌∙◌, ap₂, arith}
+use Rattle.std.proofs.Common.{◌≡◌, ℕ, ◌<◌, Bool, true, eqb, ltb, leb, length, get_or, Some, None, Option, sym, refl, ap, ap₂, arith}
 use Rattle.std.proofs.lemmas.Bool.{and_parts, ltb-true, leb-true, le-leb, eqb-true}
 use Rattle.network.specs.declared.estimates.Bound.{Bound}
-use Rattle.network.specs.declared.legs.Leg.{Leg}
 use Rattle.network.specs.declared.refusals.Refusal.{Refusal}
 use Rattle.network.specs.declared.refusals.Refusal.TheVariants as why
 use Rattle.network.specs.Checks.{legs_of, unless, unless_leg}
-use Rattle.network.specs.Estimates.{nothing_left, ends_keep_rules, leg_keeps_rules}
+use Rattle.network.specs.Estimates.{nothing_left}
 use Rattle.network.specs.Tariffs.{Lawful}
-use Rattle.network.specs.Walks.{graph, no_leg, leg_at}
+use Rattle.network.specs.Walks.{no_leg}
 use Rattle.network.proofs.Checking.{Sound, accepted}
 use Rattle.network.proofs.Failing.{all_pass}
 use Rattle.worksheet.specs.declared.records.Query.{Query}
@@ -19,12 +18,10 @@ use Rattle.search.specs.Calls.{CostsFit, limit_fits, ends_fit, tables_fit, is_re
 
 -- A test that is passed, and the rest of the refusal after it.
 passed : (b : Bool) (w : Refusal) (rest : Option Refusal) → unless b w rest ≡ None → (b ≡ true) × (rest ≡ None)
-passed true w rest e = (refl, e)
-passed false w rest e = cc
+passed b w rest e = (grind arith, grind arith)
 
 no_leg_fails : (w : ℕ → Refusal) (o : Option ℕ) → unless_leg w o None ≡ None → None ≡ o
-no_leg_fails w None e = refl
-no_leg_fails w (Some j) e = cc
+no_leg_fails w o e = grind arith
 
 -- The tests of an open, passed.
 pub record Passed (s : Setting) (q : Query) : Type 0 where
@@ -47,7 +44,7 @@ all_passed s q e =
       ends = ends.0;
       tables = tables.0;
       goal = goal.0;
-      legs = λ j b. all_pass (leg_lawful s) 0 (legs_of s.net s.table) (no_leg_fails why.LegEstimate _ goal.1) j no_leg b;
+      legs = λ j b. all_pass (leg_lawful s) (legs_of s.net s.table) (no_leg_fails why.LegEstimate _ goal.1) j no_leg b;
     }
 
 -- The goal has the pair 0 and 0.
@@ -56,17 +53,6 @@ reached None e = cc
 reached (Some b) e =
     let parts = and_parts (eqb b.cost 0) (eqb b.delay 0) e in
     ap (λ (x : Bound). Some x) (ap₂ (λ c d. record { cost = c; delay = d }) (eqb-true b.cost 0 parts.0) (eqb-true b.delay 0 parts.1))
-
--- Which legs there are does not matter to the rules for one.
-module _ (s : Setting) (leg : Leg) where
-  ends_rules : (t h : Option Bound) → ends_keep_rules (graph s.terms []) leg t h ≡ ends_keep_rules (graph s.terms (legs_of s.net s.table)) leg t h
-  ends_rules None None = refl
-  ends_rules None (Some h) = refl
-  ends_rules (Some t) None = refl
-  ends_rules (Some t) (Some h) = refl
-
-  leg_rules : leg_lawful s leg ≡ leg_keeps_rules (graph s.terms (legs_of s.net s.table)) s.at leg
-  leg_rules = ends_rules (s.at leg.tail) (s.at leg.head)
 
 -- With as many label records as the setting says, what an accepted search starts from.
 pub open_accepted : (s : Setting) (q : Query) (w : State) → Lawful s.terms → open_refusal s q ≡ None → CostsFit (problem s q) → length w.labels ≡ s.labels → Accepted s.terms (problem s q) w
@@ -82,7 +68,7 @@ open_accepted s q w lawful e fits labels =
       joins = λ a b. refl;
       estimate_is_lawful = record {
         goal_is_reached = reached (s.at q.goal) tests.goal;
-        legs_keep_rules = λ j b. sym (leg_rules s (leg_at (problem s q).graph j)) ∙ tests.legs j b;
+        legs_keep_rules = tests.legs;
       };
       start_estimate_fits = fits.at_start;
       head_estimates_fit = fits.at_heads;

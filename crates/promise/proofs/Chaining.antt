@@ -1,24 +1,22 @@
 -- Where labels are linked, the chain from a label is the walk that it is traced by. Assumes nothing.
-use Rattle.std.proofs.Common.{◌≡◌, ℕ, zero, suc, ◌<◌, ◌≤◌, ◌&&◌, eqb, ltb, List, [], ◌∷◌, Some, None, Option, refl, ap, ◌∙◌, arith}
-use Rattle.std.proofs.lemmas.Bool.{cond-true, cond-false, and_from, lt-ltb, eq-eqb, ne_eqb}
+use Rattle.std.proofs.Common.{◌≡◌, ℕ, zero, suc, ◌<◌, ◌≤◌, eqb, List, [], ◌∷◌, Some, None, Option, refl, ap, ◌∙◌, arith}
+use Rattle.std.proofs.lemmas.Bool.{cond-true, cond-false, eq-eqb, ne_eqb}
+use Rattle.std.proofs.lemmas.Bool.Decides.{nat_tests}
 use Rattle.worksheet.specs.declared.records.Label.{Label}
 use Rattle.worksheet.specs.declared.records.Origin.{Origin}
 use Rattle.worksheet.specs.Steps.{label_at}
 use Rattle.worksheet.specs.Traces.{traced, trace}
 use Rattle.worksheet.specs.Series.{Linked}
-use Rattle.search.specs.Calls.{origin_inside, origin_at, at_first, by_origin, chain_from}
+use Rattle.search.specs.Calls.{origin_at, at_first, by_origin, chain_from}
 
 module _ (m n : ℕ) (labels : List Label) (linked : (i : ℕ) → i < n → Linked m i (label_at labels i).from) where
   -- The chain ends at label 0.
   ends : (js : List ℕ) → 0 < n → at_first n js ≡ Some js
-  ends js h = cond-true (ltb 0 n) (Some js) None (lt-ltb 0 n h)
+  ends js h = grind (arith, nat_tests)
 
   -- No origin leads outside.
   origin_is : (i : ℕ) (o : Origin) → (label_at labels i).from ≡ Some o → Linked m i (Some o) → i < n → origin_at m n labels i ≡ Some o
-  origin_is i o e l b =
-      cond-true (ltb i n) (origin_inside m i (label_at labels i).from) None (lt-ltb i n b)
-      ∙ ap (origin_inside m i) e
-      ∙ cond-true (ltb o.parent i && ltb o.leg m) (Some o) None (and_from (ltb o.parent i) (ltb o.leg m) (lt-ltb _ _ l.0) (lt-ltb _ _ l.1))
+  origin_is i o e l b = grind (arith, nat_tests)
 
   chain_traced : (fuel i : ℕ) (o : Option Origin) → (label_at labels i).from ≡ o → Linked m i o → i ≤ fuel → i < n → (js : List ℕ) → chain_from m n labels fuel i js ≡ Some (traced labels fuel o js)
   unfolding chain_from

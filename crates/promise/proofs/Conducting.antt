@@ -19,6 +19,7 @@ use Rattle.promise.specs.declared.calls.Call.TheVariants as call
 use Rattle.promise.specs.declared.calls.Event.{Event}
 use Rattle.promise.specs.Promise.{Promise}
 use Rattle.promise.specs.Conduct.{verdict_on, Does, tells, Made, Conducted, begins, continues}
+use Rattle.promise.proofs.Promised.{calls_keep_the_promise}
 
 -- The front of a vector whose whole was lent and came back as b.
 pub front_of : (k n : ℕ) (b xs : List ℕ) → length b ≡ n → take k (take n (b ++ drop (length b) xs)) ≡ take k b
@@ -38,6 +39,12 @@ resized net table t at ls ks xs ys n m labels least room w u c x does = subst (�
   where
     same : setting net table t at ls xs n ≡ setting net table t at ks ys m
     same = rw (labels, least, room)
+
+-- How far the calls have come: the first i of them are made and have left these events, and the queue keeps its room.
+pub record Conducting (s : Setting) (calls : List Call) (i room : ℕ) (w : Worksheet) (events : List Event) : Type 0 where
+  pub same_room : room ≡ s.capacity
+  pub in_order : map (λ (e : Event). e.call) events ≡ take i calls
+  pub conducted : Conducted s w (reverse events)
 
 -- Before the first call.
 pub conducted_none : (s : Setting) (w : Worksheet) (es : List Event) → es ≡ [] → Made s w → Conducted s w (reverse es)
@@ -65,3 +72,6 @@ calls_front es cs i h e =
 -- Where no event was added.
 pub same_events : (s : Setting) (es fs : List Event) (cs : List Call) → fs ≡ es → Promise s (reverse es) → map (λ (e : Event). e.call) es ≡ take (length es) cs → Promise s (reverse fs) × (map (λ (e : Event). e.call) fs ≡ take (length fs) cs)
 same_events s es fs cs e kept calls = (subst (λ (x : List Event). Promise s (reverse x)) (sym e) kept, subst (λ (x : List Event). map (λ (y : Event). y.call) x ≡ take (length x) cs) (sym e) calls)
+
+-- what `conduct` needs of each call, and of all
+pub ruleset call_by_call = (conducted_none, conducted_more, resized, calls_more, calls_front, same_events, calls_keep_the_promise)

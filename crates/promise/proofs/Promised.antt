@@ -1,5 +1,5 @@
 -- Every history of calls keeps the promise. Assumes nothing.
-use Rattle.std.proofs.Common.{◌≡◌, ℕ, suc, ◌+◌, ◌<◌, ◌≤◌, Bool, true, false, cond, eqb, List, [], ◌∷◌, length, Some, None, Ok, Option, sym, refl, ap, ◌∙◌, subst, ap₂, arith}
+use Rattle.std.proofs.Common.{◌≡◌, ℕ, suc, ◌+◌, ◌<◌, ◌≤◌, Bool, true, cond, eqb, List, [], ◌∷◌, length, Some, None, Ok, Option, sym, refl, ap, ◌∙◌, subst, ap₂, arith}
 use Rattle.std.proofs.lemmas.Bool.{cond-true, cond-false, eq-eqb, ne_eqb}
 use Rattle.network.specs.Tariffs.{Lawful}
 use Rattle.worksheet.specs.declared.records.Mark.{Mark}
@@ -50,10 +50,7 @@ open_not_found q i m e f = cc
 -- Searches are numbered upward.
 searches_rise : (c : Call) (b : Bool) (n : ℕ) → n ≤ searches_by c b n
 searches_rise (call.Open q) true n = omega arith
-searches_rise (call.Open q) false n = omega arith
-searches_rise (call.Advance k) b n = omega arith
-searches_rise call.Verdict b n = omega arith
-searches_rise (call.Trace i) b n = omega arith
+searches_rise c b n = omega arith
 
 -- What is kept with some routes is kept with others that are the same up to the last search.
 same_routes : (s : Setting) (route other : ℕ → List ℕ) (h : List Event) → ((i : ℕ) → i ≤ searches h → route i ≡ other i) → AllKept s route h → AllKept s other h
@@ -69,11 +66,8 @@ same_routes s route other (e ∷ before) same kept =
 
 -- The walk of what is found, and no leg where nothing is.
 abbrev pub found_route : State → Phase → List ℕ
-found_route t phase.Fresh = []
-found_route t phase.Open = []
 found_route t (phase.Found i m) = trace t.labels i
-found_route t phase.Exhausted = []
-found_route t (phase.Stopped why) = []
+found_route t q = []
 
 abbrev route_on : Worksheet → List ℕ
 route_on w = found_route w.state w.state.phase
@@ -104,15 +98,9 @@ module _ (s : Setting) (lawful : Lawful s.terms) where
 
   call_comes_to : (w : Worksheet) (o : Option Query) (os : List Mark) (n : ℕ) → ComesTo s w o os n → (c : Call) (x : Answer) (u : Worksheet) → Way s w c x u
       → ComesTo s u (question_by c (is_accepted x) o) (offers_by c (is_accepted x) os) (allowed_by c (is_accepted x) n)
-  call_comes_to w o os n v c x u (open_refused q r e) = v
   call_comes_to w o os n v c x u (opened_anew q e fits) = open_comes_to w q o os n e fits v
-  call_comes_to w o os n v c x u (advance_refused k e) = v
   call_comes_to w o os n v c x u (advanced k e) = advance_comes_to w k o os n e v
-  call_comes_to w o os n v c x u told = v
-  call_comes_to w o os n v c x u (none_found k e) = v
-  call_comes_to w o os n v c x u (led_outside k i m e f) = v
-  call_comes_to w o os n v c x u (too_short k i m js e f h) = v
-  call_comes_to w o os n v c x u (traced_whole k i m js legs e f h l) = v
+  call_comes_to w o os n v c x u d = v
 
   verdict_is : (w : Worksheet) (h : List Event) → Conducted s w h → verdict_after h ≡ verdict_on w
   verdict_is w h (begins made) = sym (fresh_verdict s w made)
@@ -191,17 +179,11 @@ module _ (s : Setting) (lawful : Lawful s.terms) where
       (route, new, (kept_more w h cd (route_on w) (route_on_is w) c x u d js is route (sym (old (searches h) (omega arith)) ∙ r.1) new, same_routes s r.0 route h old r.2))
 
   call_routes : (w : Worksheet) (h : List Event) → Conducted s w h → ((js : List ℕ) → RouteIs w js → Routes h js) → (c : Call) (x : Answer) (u : Worksheet) → Way s w c x u → (js : List ℕ) → RouteIs u js → Routes (event c x u ∷ h) js
-  call_routes w h cd before c x u (open_refused q r e) js is = same_search w h cd js is (before js is) c x w (open_refused q r e) is refl
   call_routes w h cd before c x u (opened_anew q e fits) js is = next_search w h cd (before (route_on w) (route_on_is w)) c x u (opened_anew q e fits) js is refl
-  call_routes w h cd before c x u (advance_refused k e) js is = same_search w h cd js is (before js is) c x w (advance_refused k e) is refl
   call_routes w h cd before c x u (advanced k e) js is =
       let was : RouteIs w js = λ i m f. absurd (open_not_found w.state.phase i m e f) in
       same_search w h cd js was (before js was) c x u (advanced k e) is refl
-  call_routes w h cd before c x u told js is = same_search w h cd js is (before js is) c x w told is refl
-  call_routes w h cd before c x u (none_found k e) js is = same_search w h cd js is (before js is) c x w (none_found k e) is refl
-  call_routes w h cd before c x u (led_outside k i m e f) js is = same_search w h cd js is (before js is) c x w (led_outside k i m e f) is refl
-  call_routes w h cd before c x u (too_short k i m ks e f l) js is = same_search w h cd js is (before js is) c x w (too_short k i m ks e f l) is refl
-  call_routes w h cd before c x u (traced_whole k i m ks legs e f l t) js is = same_search w h cd js is (before js is) c x w (traced_whole k i m ks legs e f l t) is refl
+  call_routes w h cd before c x u d js is = same_search w h cd js is (before js is) c x u d is refl
 
   routes : (w : Worksheet) (h : List Event) → Conducted s w h → (js : List ℕ) → RouteIs w js → Routes h js
   routes w h (begins made) js is = (λ _. js, refl, tt)

@@ -1,10 +1,10 @@
 -- An opened search is open, and what a run of steps comes to. Assumes nothing.
-use Rattle.std.proofs.Common.{◌≡◌, ℕ, zero, suc, ◌+◌, ◌≤◌, Bool, true, false, cond, leb, List, Some, None, Option, refl, subst, arith}
+use Rattle.std.proofs.Common.{◌≡◌, ℕ, zero, suc, ◌+◌, ◌≤◌, Bool, true, false, cond, List, Option, refl, subst, arith}
 use Rattle.network.specs.declared.estimates.Bound.{Bound}
 use Rattle.worksheet.specs.declared.records.Mark.{Mark}
 use Rattle.worksheet.specs.declared.records.Phase.TheVariants as phase
 use Rattle.worksheet.specs.Problem.{Problem}
-use Rattle.worksheet.specs.Steps.{State, is_open, step, opened, open_at, open_fit}
+use Rattle.worksheet.specs.Steps.{State, is_open, step, opened, open_at}
 use Rattle.worksheet.specs.Series.{Series, stepped}
 use Rattle.search.specs.Calls.{Run, ran, run}
 use Rattle.worksheet.proofs.Ways.{not_open}
@@ -15,13 +15,8 @@ module _ (p : Problem) (w : State) where
   abbrev Begun : State → Type 0
   Begun s = (s.phase ≡ phase.Open) × (s.steps ≡ 0)
 
-  fit_begun : (h : Bound) (b : Bool) → Begun (open_fit p w h b)
-  fit_begun h false = (refl, refl)
-  fit_begun h true = (refl, refl)
-
   at_begun : (o : Option Bound) → Begun (open_at p w o)
-  at_begun None = (refl, refl)
-  at_begun (Some h) = fit_begun h (leb h.delay p.limit)
+  at_begun o = (grind arith, grind arith)
 
   pub opened_begun : Begun (opened p w)
   opened_begun = at_begun (p.at p.start)

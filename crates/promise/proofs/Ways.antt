@@ -95,11 +95,8 @@ module _ (s : Setting) (w : Worksheet) where
     chain_way i m f (Some js) l r a e g = laid_way i m js f l (leb (length js) (length b)) refl r a e g
 
     trace_way : (p : Phase) → w.state.phase ≡ p → (r : Result ℕ Refusal) (a : Result (Vec ℕ) Refusal) → traced r c ≡ traced_in s.net s.table w.state.count w.state.labels p b → Gives r c a → Way s w (call.Trace n) (answer.Traced a) w
-    trace_way phase.Fresh f r a e g = refused_way r why.NotFound a e g (none_found n (λ i m q. cc))
-    trace_way phase.Open f r a e g = refused_way r why.NotFound a e g (none_found n (λ i m q. cc))
     trace_way (phase.Found i m) f r a e g = chain_way i m f (found_chain s w i) refl r a e g
-    trace_way phase.Exhausted f r a e g = refused_way r why.NotFound a e g (none_found n (λ i m q. cc))
-    trace_way (phase.Stopped x) f r a e g = refused_way r why.NotFound a e g (none_found n (λ i m q. cc))
+    trace_way p f r a e g = refused_way r why.NotFound a e g (none_found n (λ i m q. cc))
 
   pub way : (c : Call) (x : Answer) (u : Worksheet) → Does s w c x u → Way s w c x u
   way c x u (opens q r v e fits) = open_way q r v (open_refusal s q) refl e fits

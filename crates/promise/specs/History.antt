@@ -1,5 +1,5 @@
 -- What a history of calls tells: the list of its events, the last first. Assumes nothing.
-use Rattle.std.specs.Prelude.{ℕ, suc, ◌+◌, Bool, true, false, List, [], ◌∷◌, Some, None, Ok, Err, Option}
+use Rattle.std.specs.Prelude.{ℕ, suc, ◌+◌, Bool, true, List, [], ◌∷◌, is_ok, Some, None, Option}
 use Rattle.worksheet.specs.declared.records.Mark.{Mark}
 use Rattle.worksheet.specs.declared.records.Query.{Query}
 use Rattle.worksheet.specs.Problem.{Setting}
@@ -13,13 +13,10 @@ use Rattle.promise.specs.declared.calls.Event.{Event}
 
 -- The call was not refused.
 abbrev pub is_accepted : Answer → Bool
-is_accepted (Opened (Ok u)) = true
-is_accepted (Opened (Err why)) = false
-is_accepted (Advanced (Ok n)) = true
-is_accepted (Advanced (Err why)) = false
+is_accepted (Opened r) = is_ok r
+is_accepted (Advanced r) = is_ok r
 is_accepted (Told v) = true
-is_accepted (Traced (Ok legs)) = true
-is_accepted (Traced (Err why)) = false
+is_accepted (Traced r) = is_ok r
 
 -- The verdict on a search that was never opened.
 abbrev pub never_opened : Verdict
@@ -37,10 +34,7 @@ setting_after s h = s
 -- The question after a call, accepted or not, by the question before it.
 abbrev pub question_by : Call → Bool → Option Query → Option Query
 question_by (call.Open q) true o = Some q
-question_by (call.Open q) false o = o
-question_by (call.Advance k) b o = o
-question_by call.Verdict b o = o
-question_by (call.Trace n) b o = o
+question_by c b o = o
 
 -- The question of the last accepted open.
 abbrev pub question : List Event → Option Query
@@ -50,11 +44,8 @@ question (e ∷ before) = question_by e.call (is_accepted e.answer) (question be
 -- The steps allowed after a call, by those before it.
 abbrev pub allowed_by : Call → Bool → ℕ → ℕ
 allowed_by (call.Open q) true n = 0
-allowed_by (call.Open q) false n = n
 allowed_by (call.Advance k) true n = n + k
-allowed_by (call.Advance k) false n = n
-allowed_by call.Verdict b n = n
-allowed_by (call.Trace i) b n = n
+allowed_by c b n = n
 
 -- The steps that advance was allowed in all since the last accepted open.
 abbrev pub allowed : List Event → ℕ
@@ -64,10 +55,7 @@ allowed (e ∷ before) = allowed_by e.call (is_accepted e.answer) (allowed befor
 -- The searches begun after a call, by those before it.
 abbrev pub searches_by : Call → Bool → ℕ → ℕ
 searches_by (call.Open q) true n = suc n
-searches_by (call.Open q) false n = n
-searches_by (call.Advance k) b n = n
-searches_by call.Verdict b n = n
-searches_by (call.Trace i) b n = n
+searches_by c b n = n
 
 -- How many searches were begun. Each has its number by that, and one route.
 abbrev pub searches : List Event → ℕ
@@ -77,10 +65,7 @@ searches (e ∷ before) = searches_by e.call (is_accepted e.answer) (searches be
 -- The offers after a call, by those before it.
 abbrev pub offers_by : Call → Bool → List Mark → List Mark
 offers_by (call.Open q) true os = []
-offers_by (call.Open q) false os = os
-offers_by (call.Advance k) b os = os
-offers_by call.Verdict b os = os
-offers_by (call.Trace i) b os = os
+offers_by c b os = os
 
 -- The offers that the search was resumed after since the last accepted open, the last first: none, as no call resumes it.
 abbrev pub offers : List Event → List Mark

@@ -28,13 +28,11 @@ fn trace_into(
     ensures { IfOk result (λ x. TracedInto network.now table.now search.now labels.now size x) }
 {
     let mut buffer = vec![in heap; 0u16; size]?;
-    match search.trace(network, table, labels, &mut buffer) {
-        Ok(count) => {
-            buffer.truncate(count);
-            Ok(Ok(buffer))
-        }
-        Err(why) => Ok(Err(why)),
-    }
+    let traced = search.trace(network, table, labels, &mut buffer);
+    Ok(traced.map(|count| {
+        buffer.truncate(count);
+        buffer
+    }))
 }
 
 // Makes one call.
@@ -53,22 +51,23 @@ fn answer<Q: Queue, T: Tariff, E: Estimate>(
     ensures does { IfOk result (λ x. Does (setting network.now table.now (T.terms tariff.now) (E.at estimate.now) labels.old least.old (Q.room queue.old)) (worksheet search.old labels.old least.old (Q.bag queue.old)) call x (worksheet search.new labels.new least.new (Q.bag queue.new))) }
     ensures same_room { Q.room queue.new ≡ Q.room queue.old }
 {
-    match call {
-        Call::Open(query) => Ok(Answer::Opened(search.open(
+    Ok(match call {
+        Call::Open(query) => Answer::Opened(search.open(
             query, network, table, labels, least, queue, tariff, estimate,
-        ))),
-        Call::Advance(steps) => Ok(Answer::Advanced(search.advance(
+        )),
+        Call::Advance(steps) => Answer::Advanced(search.advance(
             steps, network, table, labels, least, queue, tariff, estimate,
-        ))),
-        Call::Verdict => Ok(Answer::Told(search.verdict())),
-        Call::Trace(size) => Ok(Answer::Traced(trace_into(
+        )),
+        Call::Verdict => Answer::Told(search.verdict()),
+        Call::Trace(size) => Answer::Traced(trace_into(
             heap, size, search, network, table, labels,
-        )?)),
-    }
+        )?),
+    })
 }
 
 // Makes the calls in their order on a fresh search record, and leaves an event for each. Where memory runs out, the events
 // are those of the calls before.
+#[tactic(auto, using(crate::proofs::Conducting::call_by_call))]
 pub fn conduct<Q: Queue, T: Tariff, E: Estimate>(
     heap: Global,
     calls: &[Call],

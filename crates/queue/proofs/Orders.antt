@@ -3,7 +3,7 @@
 use Rattle.std.proofs.Common.{◌≡◌, ℕ, ◌<◌, ◌≤◌, Bool, true, false, ◌⊎◌, Ordering, Less, Equal, Greater, sym, refl, ap, ◌∙◌, subst, inl, inr, true≢false, arith}
 use Rattle.std.proofs.lemmas.List.MinMax.{ranks_by}
 use Rattle.std.specs.Cmp.{IsTotalOrder, nat_cmp_total, nat_cmp_is, ranks, then_total, on_total, IsStrictWeakOrder}
-use Rattle.std.specs.Ordering.{is_lt, is_gt, ordering_reverse, ordering_then, MatchOrdering, nat_cmp}
+use Rattle.std.specs.Ordering.{is_lt, ordering_reverse, ordering_then, MatchOrdering, nat_cmp}
 use Rattle.queue.specs.declared.entry.Entry.{Entry}
 use Rattle.queue.specs.Order.{compared, before}
 
@@ -36,9 +36,7 @@ pub not_before_chain : (x y z : Entry) → before x y ≡ false → before y z �
 not_before_chain = ranked.chain
 
 both_equal : (a b : Ordering) → ordering_then a b ≡ Equal → (a ≡ Equal) × (b ≡ Equal)
-both_equal Less b h = absurd (true≢false (ap is_lt h))
-both_equal Equal b h = (refl, h)
-both_equal Greater b h = absurd (true≢false (ap is_gt h))
+both_equal a b h = (grind arith, grind arith)
 
 same_number : (a b : ℕ) → nat_cmp a b ≡ Equal → a ≡ b
 same_number a b h = subst (λ k. MatchOrdering k (a < b) (a ≡ b) (b < a)) h (ranks a b)
@@ -64,14 +62,9 @@ by_answer x y Greater h = inr (inl (ap is_lt (compared_flip y x ∙ ap ordering_
 pub before_total : (x y : Entry) → (before x y ≡ true) ⊎ ((before y x ≡ true) ⊎ (x ≡ y))
 before_total x y = by_answer x y _ refl
 
-neither : (x y : Entry) → (before x y ≡ true) ⊎ ((before y x ≡ true) ⊎ (x ≡ y)) → before x y ≡ false → before y x ≡ false → x ≡ y
-neither x y (inl t) h k = absurd (true≢false (sym t ∙ h))
-neither x y (inr (inl t)) h k = absurd (true≢false (sym t ∙ k))
-neither x y (inr (inr e)) h k = e
-
 -- Antisymmetric: entries of which neither comes before the other are the same.
 pub before_antisymmetric : (x y : Entry) → before x y ≡ false → before y x ≡ false → x ≡ y
-before_antisymmetric x y = neither x y (before_total x y)
+before_antisymmetric x y h k = let one = before_total x y in grind arith
 
 -- What is left to compare, past the estimate, past the cost, and past the delay.
 abbrev past_estimate : Entry → Entry → Ordering

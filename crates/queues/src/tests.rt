@@ -44,11 +44,7 @@ fn turn(
         assert_eq!(rt; heap.put(e), expected);
         assert_eq!(rt; row.put(e), expected);
     } else {
-        let expected = if list.is_empty() {
-            None
-        } else {
-            Some(list.remove(0))
-        };
+        let expected = (!list.is_empty()).then(|| list.remove(0));
         assert_eq!(rt; heap.take(), expected);
         assert_eq!(rt; row.take(), expected);
     }

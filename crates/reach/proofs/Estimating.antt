@@ -1,6 +1,7 @@
 -- Tables that are nearest make a lawful estimate, whatever code wrote them. Assumes nothing.
-use Rattle.std.proofs.Common.{◌≡◌, ℕ, ◌+◌, ◌<◌, ◌≤◌, true, ltb, ◌⊎◌, List, ◌∷◌, length, get_or, Some, None, Option, sym, refl, ap, ◌∙◌, subst, inl, inr, arith}
-use Rattle.std.proofs.lemmas.Bool.{cases_lt, cond-true, cond-false, and_from, and_right, lt-ltb, le-leb, eq-eqb, ne_eqb, not_from_true, not_from_false}
+use Rattle.std.proofs.Common.{◌≡◌, ℕ, ◌+◌, ◌<◌, ◌≤◌, true, ◌⊎◌, List, ◌∷◌, length, get_or, Some, None, Option, sym, refl, ap, ◌∙◌, subst, inl, inr, arith}
+use Rattle.std.proofs.lemmas.Bool.{cases_lt, and_from, le-leb}
+use Rattle.std.proofs.lemmas.Bool.Decides.{nat_tests}
 use Rattle.network.specs.declared.legs.Leg.{Leg}
 use Rattle.network.specs.declared.estimates.Bound.{Bound}
 use Rattle.network.specs.Walks.{Graph, leg_at}
@@ -13,12 +14,10 @@ use Rattle.reach.proofs.Records.{least_cost, least_delay, cut_off_has_no_walk, d
 module _ (costs delays : List ℕ) (u : ℕ) where
   pub estimate_at_reached : u < length costs → u < length delays → get_or delays u 0 < largest_delay
       → tables_at costs delays u ≡ Some (record { cost = get_or costs u 0; delay = get_or delays u 0 })
-  estimate_at_reached hc hd h = cond-true _ _ _ (and_from _ _ (lt-ltb _ _ hc) (and_from _ _ (lt-ltb _ _ hd) (not_from_false _ (ne_eqb _ _ (λ e. omega arith)))))
+  estimate_at_reached hc hd h = grind (arith, nat_tests)
 
   pub estimate_at_cut_off : get_or delays u 0 ≡ largest_delay → tables_at costs delays u ≡ None
-  estimate_at_cut_off h =
-      cond-false _ (Some (record { cost = get_or costs u 0; delay = get_or delays u 0 })) None
-      (and_right (ltb u (length costs)) _ (and_right (ltb u (length delays)) _ (not_from_true _ (eq-eqb _ _ h))))
+  estimate_at_cut_off h = grind (arith, nat_tests)
 
 -- where the records of the site are nearest, its estimate is the least cost and the least delay, or none for no walk
 pub estimate_is_between : (g : Graph) (u goal : ℕ) (costs delays : List ℕ) → u < length costs → u < length delays → Nearest g u goal (get_or costs u 0) (get_or delays u 0) → Between g u goal (tables_at costs delays u)

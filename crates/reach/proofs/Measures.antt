@@ -1,7 +1,8 @@
 -- How many sites are reached, and the height of the tables, which falls with each change. Assumes nothing.
 use Rattle.std.proofs.Common.{◌≡◌, ℕ, ◌+◌, ◌<◌, ◌≤◌, min, cond, ltb, List, length, get_or, set, sum, count_by, ⊎_elim, arith}
 use Rattle.std.proofs.lemmas.List.Sums.{sum_by-set, count_by-le-length}
-use Rattle.std.proofs.lemmas.Bool.{cond-true, cond-false, lt-ltb, le-ltb, cases_lt}
+use Rattle.std.proofs.lemmas.Bool.{cases_lt}
+use Rattle.std.proofs.lemmas.Bool.Decides.{nat_tests}
 use Rattle.reach.specs.Reaches.{largest_delay}
 use Rattle.reach.specs.Passes.{Tables, lowered}
 
@@ -19,11 +20,11 @@ one d = cond (ltb d largest_delay) 1 0
 
 one_in : (d : ℕ) → d < largest_delay → one d ≡ 1
 unfolding one
-one_in d h = cond-true _ _ _ (lt-ltb d largest_delay h)
+one_in d h = grind (arith, nat_tests)
 
 one_out : (d : ℕ) → largest_delay ≤ d → one d ≡ 0
 unfolding one
-one_out d h = cond-false _ _ _ (le-ltb d largest_delay h)
+one_out d h = grind (arith, nat_tests)
 
 reached_set : (ds : List ℕ) (i v : ℕ) → i < length ds → reached_count (set ds i v) + one (get_or ds i 0) ≡ reached_count ds + one v
 unfolding one reached_count

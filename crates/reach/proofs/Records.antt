@@ -38,3 +38,13 @@ module _ (g : Graph) (u goal c d : ℕ) where
 -- the goal's own records are 0, by the walk of no leg
 pub goal_is_nearest : (g : Graph) (goal c d : ℕ) → Nearest g goal goal c d → (c ≡ 0) × (d ≡ 0)
 goal_is_nearest g goal c d near = (omega (arith, walk_costs_no_less g goal goal c d near [] refl), omega (arith, walk_takes_no_less g goal goal c d near [] refl))
+
+-- a site has one pair of records
+pub nearest_is_unique : (g : Graph) (u goal c d c' d' : ℕ) → Nearest g u goal c d → Nearest g u goal c' d' → (c ≡ c') × (d ≡ d')
+nearest_is_unique g u goal c d c' d' (reached a b l) (reached a' b' l') = (
+  omega (arith, a.least a'.walk a'.leads, a'.least a.walk a.leads, a.has, a'.has),
+  omega (arith, b.least b'.walk b'.leads, b'.least b.walk b.leads, b.has, b'.has),
+)
+nearest_is_unique g u goal c d c' d' (reached a b l) (cut_off none ec ed) = absurd (none a.walk a.leads)
+nearest_is_unique g u goal c d c' d' (cut_off none ec ed) (reached a b l) = absurd (none a.walk a.leads)
+nearest_is_unique g u goal c d c' d' (cut_off none ec ed) (cut_off none' ec' ed') = (cc, cc)

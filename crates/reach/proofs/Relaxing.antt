@@ -10,14 +10,20 @@ use Rattle.reach.specs.Passes.{Tables, cost_by, delay_by, head_met, lowered, low
 use Rattle.reach.proofs.Lowering.{lowered_stays, zero_stays}
 use Rattle.reach.proofs.Measures.{reached_count, reached_few, reached_more, reached_keeps, height, height_lowered}
 
+-- some walk from u to v has the value x
+pub record Has (g : Graph) (value : List ℕ → ℕ) (u v x : ℕ) : Type 0 where
+  pub walk : List ℕ
+  pub leads : Walk g u walk v
+  pub has : value walk ≡ x
+
 -- the records c and d of site u, where k sites are reached: a delay below the largest is that of a walk to the goal, the
 -- cost is then that of a walk too, and each site that is reached has added at most 4,000,000 to the longest delay
 pub record Witnessed (g : Graph) (goal k u c d : ℕ) : Type 0 where
   pub cost_fits : c < 2 ^ 64
   pub delay_fits : d ≤ largest_delay
   pub unmet : d ≡ largest_delay → c ≡ largest_cost
-  pub cost_walk : d < largest_delay → (js : List ℕ) × Walk g u js goal × (walk_cost g js ≡ c)
-  pub delay_walk : d < largest_delay → (js : List ℕ) × Walk g u js goal × (walk_delay g js ≡ d)
+  pub cost_walk : d < largest_delay → Has g (walk_cost g) u goal c
+  pub delay_walk : d < largest_delay → Has g (walk_delay g) u goal d
   pub delay_bound : d < largest_delay → d + 4000000 ≤ k * 4000000
 
 -- so are the records of all n sites, and those of the goal are 0
@@ -61,24 +67,25 @@ module _ (g : Graph) (n goal : ℕ) (reg : Regular g n) (few : n ≤ 1024) (j : 
       let low : min d y < largest_delay = omega arith in
       let w = head.cost_walk met in
       let v = head.delay_walk met in
-      let cost_x : walk_cost g (j ∷ w.0) ≡ x = walk_cost_first g n reg leg.tail goal j w.0 (here, refl, w.1) ∙ ap (λ z. g.join (g.price leg) z) w.2 in
-      let delay_y : walk_delay g (j ∷ v.0) ≡ y = walk_delay_first g j v.0 ∙ ap (λ z. g.delay leg + z) v.2 in
+      let cost_x : walk_cost g (j ∷ w.walk) ≡ x = walk_cost_first g n reg leg.tail goal j w.walk (here, refl, w.leads) ∙ ap (λ z. g.join (g.price leg) z) w.has in
+      let delay_y : walk_delay g (j ∷ v.walk) ≡ y = walk_delay_first g j v.walk ∙ ap (λ z. g.delay leg + z) v.has in
+      let by_leg : x ≡ min c x → Has g (walk_cost g) leg.tail goal (min c x) = λ z. record { walk = j ∷ w.walk; leads = (here, refl, w.leads); has = cost_x ∙ z } in
       record {
         cost_fits = omega (arith, tail.cost_fits);
         delay_fits = omega arith;
         unmet = λ z. absurd (omega arith);
         cost_walk = λ _. ⊎_elim
-            (λ (h : x < c). (j ∷ w.0, (here, refl, w.1), cost_x ∙ omega arith))
+            (λ (h : x < c). by_leg (omega arith))
             (λ (h : c ≤ x). ⊎_elim
-            (λ (l : d < largest_delay). let o = tail.cost_walk l in (o.0, o.1, o.2 ∙ omega arith))
+            (λ (l : d < largest_delay). let o = tail.cost_walk l in record { walk = o.walk; leads = o.leads; has = o.has ∙ omega arith })
             (λ (l : largest_delay ≤ d).
             let top : c ≡ largest_cost = tail.unmet (omega (arith, tail.delay_fits)) in
-            (j ∷ w.0, (here, refl, w.1), cost_x ∙ omega arith))
+            by_leg (omega arith))
             (cases_lt d largest_delay))
             (cases_lt x c);
         delay_walk = λ _. ⊎_elim
-            (λ (h : y < d). (j ∷ v.0, (here, refl, v.1), delay_y ∙ omega arith))
-            (λ (h : d ≤ y). let o = tail.delay_walk (omega arith) in (o.0, o.1, o.2 ∙ omega arith))
+            (λ (h : y < d). record { walk = j ∷ v.walk; leads = (here, refl, v.leads); has = delay_y ∙ omega arith })
+            (λ (h : d ≤ y). let o = tail.delay_walk (omega arith) in record { walk = o.walk; leads = o.leads; has = o.has ∙ omega arith })
             (cases_lt y d);
         delay_bound = λ _. ⊎_elim
             (λ (l : d < largest_delay). omega (arith, tail.delay_bound l))

@@ -37,8 +37,8 @@ module _ (g : Graph) (n goal : ℕ) (is_site : goal < n) where
         cost_fits = omega arith;
         delay_fits = omega arith;
         unmet = λ x. absurd (omega arith);
-        cost_walk = λ _. ([], refl, sym c);
-        delay_walk = λ _. ([], refl, sym d);
+        cost_walk = λ _. record { walk = []; leads = refl; has = sym c };
+        delay_walk = λ _. record { walk = []; leads = refl; has = sym d };
         delay_bound = λ _. omega arith;
       })
   first_site u h (inr ne) =
@@ -107,8 +107,8 @@ module _ (g : Graph) (n goal : ℕ) (reg : Regular g n) (few : n ≤ 1024) (t : 
       let c = s.cost_walk met in
       let d = s.delay_walk met in
       reached
-      (record { walk = c.0; leads = c.1; has = c.2; least = λ js w. (at_most u js w).cost })
-      (record { walk = d.0; leads = d.1; has = d.2; least = λ js w. (at_most u js w).delay })
+      (record { walk = c.walk; leads = c.leads; has = c.has; least = λ js w. (at_most u js w).cost })
+      (record { walk = d.walk; leads = d.leads; has = d.has; least = λ js w. (at_most u js w).delay })
       met)
       (λ (far : largest_delay ≤ get_or t.delays u 0).
       let top : get_or t.delays u 0 ≡ largest_delay = omega (arith, s.delay_fits) in

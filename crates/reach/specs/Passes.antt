@@ -1,5 +1,5 @@
 -- What passing over the legs makes of the two tables. Assumes nothing.
-use Rattle.std.specs.Prelude.{ℕ, ◌+◌, min, Bool, false, cond, ◌&&◌, ◌||◌, List, [], ◌∷◌, nat_lt, slice_index, slice_index_or, slice_set}
+use Rattle.std.specs.Prelude.{ℕ, ◌+◌, min, Bool, false, ◌&&◌, ◌||◌, List, [], ◌∷◌, nat_lt, slice_index, slice_index_or, slice_set, if◌then◌else◌}
 use Rattle.std.specs.Ordering.{is_lt}
 use Rattle.std.specs.declared.cmp.Ordering.{Ordering}
 use Rattle.network.specs.declared.legs.Leg.{Leg}
@@ -34,14 +34,14 @@ abbrev pub lowers_by : {N : Type 0} → (N → N → Ordering) → List N → �
 lowers_by cmp xs i value = is_lt (cmp value (slice_index_or xs i value))
 
 abbrev pub lowered_by : {N : Type 0} → (N → N → Ordering) → List N → ℕ → N → List N
-lowered_by cmp xs i value = cond (lowers_by cmp xs i value) (slice_set xs i value) xs
+lowered_by cmp xs i value = if lowers_by cmp xs i value then slice_set xs i value else xs
 
 -- The tables after one leg: where a walk from its head has been met, the records of its tail are lowered by way of its head.
 abbrev pub relaxed : Graph → Leg → Tables → Tables
 relaxed g leg t =
-    cond (head_met leg t)
-    (record { costs = lowered t.costs leg.tail (cost_by g leg t); delays = lowered t.delays leg.tail (delay_by g leg t) })
-    t
+    if head_met leg t
+    then record { costs = lowered t.costs leg.tail (cost_by g leg t); delays = lowered t.delays leg.tail (delay_by g leg t) }
+    else t
 
 -- One leg lowers a record.
 abbrev pub relaxes : Graph → Leg → Tables → Bool

@@ -34,6 +34,7 @@ use network::refusals::Refusal;
 use network::tariffs::Tariff;
 
 // Refuses a reach by its network and leg table, then by a goal that is no site, then by a table too short.
+#[tactic(auto, using(network::proofs::Checking::test_by_test))]
 fn check(
     network: &Network,
     table: &[Leg],
@@ -47,7 +48,8 @@ fn check(
     if goal >= network.sites {
         return Err(Refusal::Site);
     }
-    if costs < network.sites as usize || delays < network.sites as usize {
+    let sites = usize::from(network.sites);
+    if costs < sites || delays < sites {
         return Err(Refusal::Room);
     }
     Ok(())
@@ -74,19 +76,22 @@ fn relax<T: Tariff>(leg: &Leg, tariff: &T, costs: &mut [u64], delays: &mut [u32]
     ensures value { result ≡ relaxes (graph (T.terms tariff.now) []) leg.now (record { costs = costs.old; delays = delays.old }) }
     ensures after { record { costs = costs.new; delays = delays.new } ≡ relaxed (graph (T.terms tariff.now) []) leg.now (record { costs = costs.old; delays = delays.old }) }
 {
-    let onward = delays[leg.head as usize];
+    let tail = usize::from(leg.tail);
+    let head = usize::from(leg.head);
+    let onward = delays[head];
     if onward == u32::MAX {
         return false;
     }
     let price = tariff.price(leg.fee, leg.grade);
-    let cost = tariff.join(price, costs[leg.head as usize]);
-    let delay = u32::try_from(leg.delay() + onward as u64).unwrap_or(u32::MAX);
-    let sooner = lower(delays, leg.tail as usize, delay);
-    let cheaper = lower(costs, leg.tail as usize, cost);
+    let cost = tariff.join(price, costs[head]);
+    let delay = u32::try_from(leg.delay() + u64::from(onward)).unwrap_or(u32::MAX);
+    let sooner = lower(delays, tail, delay);
+    let cheaper = lower(costs, tail, cost);
     sooner || cheaper
 }
 
 // One pass: relaxes each leg in turn, and answers whether a record fell.
+#[tactic(auto, using(crate::proofs::Passing::one_by_one))]
 fn pass<T: Tariff>(legs: &[Leg], tariff: &T, costs: &mut [u64], delays: &mut [u32]) -> bool
     requires equal_length { length delays.old ≡ length costs.old }
     requires legs_in_range { (j : ℕ) → j < length legs.now → leg_in_range (length costs.old) (slice_index_or legs.now j no_leg) ≡ true }
@@ -137,14 +142,14 @@ pub fn reach<T: Tariff>(
     ensures estimate_is_lawful { OnOk result (LawfulTowards (graph (T.terms tariff.now) (legs_of network.now table.now)) (tables_at costs.new delays.new) goal) }
 {
     check(network, table, goal, costs.len(), delays.len())?;
-    let legs = &table[0..network.legs as usize];
+    let legs = network.legs_in(table);
     let sites = network.sites as usize;
     settle(
         legs,
         tariff,
         goal,
-        &mut costs[0..sites],
-        &mut delays[0..sites],
+        &mut costs[..sites],
+        &mut delays[..sites],
     );
     Ok(())
 }

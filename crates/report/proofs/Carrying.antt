@@ -50,8 +50,7 @@ module _ (line : ℕ) where
 
   sites_carries : (k : Kind) → Carries line (sites_stated line k)
   sites_carries (network t) = entry_carries sites_of 1 (fields t)
-  sites_carries (leg t) = refl
-  sites_carries (plan t) = refl
+  sites_carries k = refl
 
   room_carries : (free : Bool) (x : Result Leg Refusal) → Carries line x → Carries line (with_room line free x)
   room_carries free (Err e) c = c
@@ -64,9 +63,8 @@ module _ (line : ℕ) where
   leg_carries n free (plan t) = tt
 
   plan_carries : (n : ℕ) (k : Kind) → Carries line (plan_stated true n line k)
-  plan_carries n (network t) = refl
-  plan_carries n (leg t) = refl
   plan_carries n (plan t) = entry_carries (plan_of n) 4 (fields t)
+  plan_carries n k = refl
 
   by_plan_carries : (at after : ℕ) (x : Result Plan Refusal) → Carries line x → Carries line (by_plan at line after x).answer
   by_plan_carries at after (Err e) c = c

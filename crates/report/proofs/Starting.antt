@@ -1,5 +1,5 @@
 -- A sheet from its first line on: its load, and the text that answers it. Assumes nothing.
-use Rattle.std.proofs.Common.{◌≡◌, ℕ, min, List, [], ◌++◌, length, take, Ok, Err, Option, Result, sym, refl, ap, ◌∙◌, subst, ap₂, arith}
+use Rattle.std.proofs.Common.{◌≡◌, ℕ, min, List, [], ◌++◌, length, take, Err, Option, Result, sym, ap, ◌∙◌, subst}
 use Rattle.std.proofs.Math.Nat.{min_comm}
 use Rattle.std.proofs.lemmas.List.{take_min}
 use Rattle.network.specs.declared.legs.Leg.{Leg}
@@ -8,32 +8,24 @@ use Rattle.network.specs.declared.refusals.Refusal.{Refusal}
 use Rattle.sheet.specs.declared.reader.Reader.{Reader}
 use Rattle.sheet.specs.Start.{fresh}
 use Rattle.sheet.specs.Text.{lines}
-use Rattle.sheet.specs.Sheets.{Load, loaded_from}
-use Rattle.sheet.specs.Calls.{load_of, answered, answer_of, replaced, network_after, reader_after, fronted}
+use Rattle.sheet.specs.Sheets.{Load}
+use Rattle.sheet.specs.Calls.{load_of, answer_of, network_after, reader_after, fronted}
+use Rattle.sheet.proofs.Opening as opening
 use Rattle.planner.specs.declared.tally.Tally.{Tally}
 use Rattle.report.specs.declared.lines.Refused.{Refused}
 use Rattle.report.specs.Lines.{header, end_line}
 use Rattle.report.proofs.Carrying.{carries_at, load_carries}
 use Rattle.report.specs.Reports.{met, load_of_sheet, DeskTold, SheetTold, load_refused, loaded, Reports}
 
--- What the answer of a load tells of its outcome.
-pub refused_outcome : (x : Result Network Refusal) (why : Refusal) → Err why ≡ answered x → x ≡ Err why
-refused_outcome (Ok net) why e = cc
-refused_outcome (Err r) why e = let same : why ≡ r = cc in ap Err (sym same)
-
-pub accepted_outcome : (x : Result Network Refusal) (a : Result Unit Refusal) (old : Network) → ((why : Refusal) → a ≡ Err why → ⊥) → a ≡ answered x → x ≡ Ok (replaced x old)
-accepted_outcome (Ok net) a old ok e = refl
-accepted_outcome (Err r) a old ok e = absurd (ok r e)
-
 -- A reader as it is made, and a table for 256 legs.
 module _ (sheet : List ℕ) (tally : Tally) (table : List Leg) (r : Reader) (made : fresh sheet r) (room : length table ≡ 256) where
   load_is : load_of table r ≡ load_of_sheet sheet
-  load_is = ap₂ (λ (n : ℕ) (xs : List ℕ). loaded_from n (lines xs)) room made.0
+  load_is = opening.load_is sheet 256 table r made room
 
   -- The load is refused at the line k.
   pub ends_at_load : (why : Refusal) (r' : Reader) (k : ℕ) → Err why ≡ answer_of (load_of table r) → r' ≡ reader_after (load_of table r) r → k ≡ r'.line → SheetTold sheet tally [] (met why k)
   ends_at_load why r' k e m l =
-      let refused = ap (λ (o : Load). o.outcome) (sym load_is) ∙ refused_outcome (load_of table r).outcome why e in
+      let refused = opening.refused sheet 256 table r made room why e in
       let at : k ≡ (load_of_sheet sheet).line = l ∙ ap (λ (y : Reader). y.line) m ∙ ap (λ (o : Load). o.line) load_is in
       subst (λ i. SheetTold sheet tally [] (met why i)) (sym at) (load_refused why refused (carries_at (load_of_sheet sheet).line _ why refused (load_carries 256 (lines sheet))))
 
@@ -42,16 +34,12 @@ module _ (sheet : List ℕ) (tally : Tally) (table : List Leg) (r : Reader) (mad
       → (old net : Network) → net ≡ network_after (load_of table r) old → (table' : List Leg) → table' ≡ fronted (load_of table r).legs table → (r' : Reader) → r' ≡ reader_after (load_of table r) r
       → (more : List ℕ) (end : Option Refused) → DeskTold net table' tally r'.sheet.now r'.place r'.line more end → SheetTold sheet tally more end
   goes_on a ok e old net n table' t r' m more end told =
-      let outcome : (load_of_sheet sheet).outcome ≡ Ok net = ap (λ (o : Load). o.outcome) (sym load_is) ∙ accepted_outcome (load_of table r).outcome a old ok e ∙ ap Ok (sym n) in
-      let legs : table' ≡ fronted (load_of_sheet sheet).legs table = t ∙ ap (λ (o : Load). fronted o.legs table) load_is in
+      let outcome = opening.accepted sheet 256 table r made room a ok e old net n in
+      let legs = opening.legs_loaded sheet 256 table r made room table' t in
       let text : r'.sheet.now ≡ sheet = ap (λ (y : Reader). y.sheet.now) m ∙ made.0 in
       let at : r'.place ≡ (load_of_sheet sheet).at = ap (λ (y : Reader). y.place) m ∙ ap (λ (o : Load). o.at) load_is in
       let line : r'.line ≡ (load_of_sheet sheet).line = ap (λ (y : Reader). y.line) m ∙ ap (λ (o : Load). o.line) load_is in
-      loaded net outcome table room more end
-      (subst (λ k. DeskTold net (fronted (load_of_sheet sheet).legs table) tally sheet (load_of_sheet sheet).at k more end) line
-      (subst (λ k. DeskTold net (fronted (load_of_sheet sheet).legs table) tally sheet k r'.line more end) at
-      (subst (λ (xs : List ℕ). DeskTold net (fronted (load_of_sheet sheet).legs table) tally xs r'.place r'.line more end) text
-      (subst (λ (ls : List Leg). DeskTold net ls tally r'.sheet.now r'.place r'.line more end) legs told))))
+      loaded net outcome table room more end (rw (legs, text, at, line) at told)
 
 -- The first bytes of the input, as many as there are.
 pub first_bytes : (input : List ℕ) (n m k : ℕ) → k ≡ min (length input) m → n ≡ k → take n input ≡ take m input

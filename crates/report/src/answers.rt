@@ -5,7 +5,7 @@ ghost use Rattle.planner.specs.Serves.{ground};
 ghost use Rattle.planner.specs.Desks.{desk_of, room};
 ghost use Rattle.planner.specs.Tallies.{whole};
 ghost use Rattle.sheet.specs.Calls.{moved, next_of};
-ghost use Rattle.report.specs.Reports.{NextServed, PlansTold, DeskTold, SheetTold, Reports};
+ghost use Rattle.report.specs.Reports.{NextServed, PlansTold, SheetTold, Reports};
 
 use crate::lines::{Refused, push_end, push_plan};
 use network::legs::*;
@@ -47,6 +47,7 @@ fn serve_next(
 }
 
 // Serves the plans that are left and adds a line for each, until none is left or one is refused; answers the refusal.
+#[tactic(auto, using(sheet::proofs::Moving::less_is_left))]
 fn tell_plans(
     heap: Global,
     reader: &mut Reader<'_>,
@@ -73,27 +74,11 @@ fn tell_plans(
     }
 }
 
-// The plans of a sheet whose network and legs are loaded, served at a desk that is prepared for it.
-fn plan_loaded(
-    heap: Global,
-    reader: &mut Reader<'_>,
-    network: &Network,
-    table: &[Leg],
-    mut tally: Tally,
-    text: &mut Vec<u8>,
-) -> Result<Option<Refused>, AllocError>
-    requires { reader.old.loaded ≡ true }
-    ensures { IfOk result (λ end. (more : List ℕ) × (text.new.items ≡ text.old.items ++ more) × DeskTold network.now table.now tally reader.old.sheet.now reader.old.place reader.old.line more end) }
-{
-    let mut desk = Desk::new(heap, LABELS)?;
-    tell_plans(heap, reader, network, table, &mut desk, &mut tally, text)
-}
-
 // The plans of a sheet, served from its tally.
 fn tell_sheet(
     heap: Global,
     sheet: &[u8],
-    tally: Tally,
+    mut tally: Tally,
     text: &mut Vec<u8>,
 ) -> Result<Option<Refused>, AllocError>
     ensures { IfOk result (λ end. (more : List ℕ) × (text.new.items ≡ text.old.items ++ more) × SheetTold sheet.now tally more end) }
@@ -105,7 +90,16 @@ fn tell_sheet(
         let line = reader.line();
         return Ok(Some(Refused { why, line }));
     }
-    plan_loaded(heap, &mut reader, &network, &table, tally, text)
+    let mut desk = Desk::new(heap, LABELS)?;
+    tell_plans(
+        heap,
+        &mut reader,
+        &network,
+        &table,
+        &mut desk,
+        &mut tally,
+        text,
+    )
 }
 
 // The text that answers a sheet, and the refusal that ended it, if one did.

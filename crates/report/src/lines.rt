@@ -21,6 +21,7 @@ fn push_fields<T: Display>(text: &mut Vec<u8>, numbers: &[T]) -> Result<(), Allo
 }
 
 // A line: its word, its numbers, then leg numbers, and its end byte.
+#[tactic(auto, using(crate::proofs::Listing::line_pieces))]
 fn push_line(
     text: &mut Vec<u8>,
     word: &[u8],

@@ -101,21 +101,12 @@ mod tests {
         )
     }
 
-    // The same line so many times.
-    fn repeated(heap: Global, line: &[u8], times: u32) -> Result<Vec<u8>, AllocError> {
-        let mut all = Vec::new(heap);
-        for _ in 0..times {
-            all.extend_from_slice(line)?;
-        }
-        Ok(all)
-    }
-
     // There is room for 256 legs. With one more, the load is refused at its line, the 258th.
     #[test]
     fn one_leg_too_many(rt: HostRuntime) -> Result<(), Fail> {
         let heap = rt.alloc();
         let mut sheet = Vec::from_slice(heap, b"network,2\n")?;
-        sheet.extend_from_slice(repeated(heap, b"leg,0,1,1,1,1,0\n", 256)?.as_slice())?;
+        sheet.extend_from_slice(&b"leg,0,1,1,1,1,0\n".repeat(heap, 256)?)?;
         let mut more = Vec::from_slice(heap, sheet.as_slice())?;
         sheet.extend_from_slice(b"plan,3,0,1,1\n")?;
         assert!(rt; is_answered(heap, &sheet, 9, b"route,3,2,1,1,0\n")?);
@@ -138,7 +129,7 @@ mod tests {
             sheet.extend_from_slice(leg.as_bytes())?;
         }
         sheet.extend_from_slice(b"leg,1,2,0,0,100000,0\n")?;
-        sheet.extend_from_slice(repeated(heap, b"leg,1,2,1000,0,0,0\n", 5)?.as_slice())?;
+        sheet.extend_from_slice(&b"leg,1,2,1000,0,0,0\n".repeat(heap, 5)?)?;
         sheet.extend_from_slice(b"plan,5,0,2,99999\nplan,6,2,2,0\n")?;
         assert!(rt; is_answered(heap, &sheet, 50_000, b"stop,5,166,16\nroute,6,1,0,0\n")?);
         Ok(())
@@ -150,10 +141,10 @@ mod tests {
     fn a_sheet_too_long(rt: HostRuntime) -> Result<(), Fail> {
         let heap = rt.alloc();
         let mut sheet = Vec::from_slice(heap, b"network,1\n")?;
-        sheet.extend_from_slice(repeated(heap, b"plan,1,0,0,0\n", 1300)?.as_slice())?;
-        let mut lines = repeated(heap, b"route,1,1,0,0\n", 1259)?;
+        sheet.extend_from_slice(&b"plan,1,0,0,0\n".repeat(heap, 1300)?)?;
+        let mut lines = b"route,1,1,0,0\n".repeat(heap, 1259)?;
         let mut even = Vec::from_slice(heap, b"network,1\nplan,1,0,0,1000000\nplan,1,0,0,10\n")?;
-        even.extend_from_slice(repeated(heap, b"plan,1,0,0,0\n", 1300)?.as_slice())?;
+        even.extend_from_slice(&b"plan,1,0,0,0\n".repeat(heap, 1300)?)?;
         assert!(rt; is_answered(heap, &even, 50_000, &lines)?);
         lines.extend_from_slice(b"refuse,1,1261\n")?;
         assert!(rt; is_answered(heap, &sheet, 50_000, &lines)?);

@@ -1,9 +1,10 @@
 -- The tests whether a number leads outside its table. Assumes nothing.
-use Rattle.std.proofs.Common.{◌≡◌, ℕ, ◌<◌, ◌≤◌, Bool, true, false, cond, eqb, List, [], ◌∷◌, length, sym, refl, arith}
+use Rattle.std.proofs.Common.{◌≡◌, ℕ, ◌<◌, ◌≤◌, Bool, true, cond, eqb, List, [], ◌∷◌, length, take, sym, refl, arith}
 use Rattle.std.specs.Bool.{then_some}
 use Rattle.std.specs.List.{list_all}
 use Rattle.std.proofs.lemmas.Bool.Decides.{nat_tests}
 use Rattle.std.proofs.lemmas.Bool.{and_parts, and_from}
+use Rattle.std.proofs.lemmas.List.{get_or-take, length-take}
 use Rattle.network.specs.declared.legs.Leg.{Leg}
 use Rattle.network.specs.declared.legs.Network.{Network}
 use Rattle.network.specs.Checks.{legs_of}
@@ -13,8 +14,7 @@ use Rattle.search.specs.Parts.{leads_inside, leg_inside, all_inside, label_insid
 
 -- where all legs are inside, so are those from one site
 weaker : (b x : Bool) → x ≡ true → cond b x true ≡ true
-weaker true x h = h
-weaker false x h = refl
+weaker b x h = grind arith
 
 all_from_site : (records site : ℕ) (legs : List Leg) → list_all (leads_inside records) legs ≡ true → list_all (leg_inside records site) legs ≡ true
 all_from_site records site [] h = refl
@@ -27,7 +27,7 @@ pub inside_with_all : (records site : ℕ) (net : Network) (table : List Leg) �
 inside_with_all records site net table all = sym (all_from_site records site (legs_of net table) (and_parts _ _ (sym all)).1)
 
 -- the label that is answered, by what the code asks of it
-pub inside_by : (records : ℕ) (net : Network) (table : List Leg) (count : ℕ) (labels : List Label) (i : ℕ) (from : Label) (b : Bool)
-    → i < count → i < length labels → from ≡ label_at labels i → from.site < records → net.legs ≤ length table → b ≡ list_all (leg_inside records from.site) (legs_of net table)
+pub inside_by : (records : ℕ) (net : Network) (table : List Leg) (count : ℕ) (labels front : List Label) (i : ℕ) (from : Label) (b : Bool)
+    → front ≡ take count labels → i < length front → from ≡ label_at front i → from.site < records → net.legs ≤ length table → b ≡ list_all (leg_inside records from.site) (legs_of net table)
     → then_some b from ≡ label_inside records net table count labels i
-inside_by records net table count labels i from b written recorded same sited whole legs = grind (arith, nat_tests)
+inside_by records net table count labels front i from b recorded written same sited whole legs = grind (arith, nat_tests, length-take, get_or-take)

@@ -20,8 +20,12 @@ module _ (p : Problem) where
   unfolding run
   run_out k made s e = let none : k - made ≡ 0 = omega arith in ap (λ j. run p j made s) none
 
--- how far a call with an allowance of k steps has come: what is left of them gives the run
-pub record Running (s : Setting) (k : ℕ) (w₀ w : Worksheet) (made : ℕ) : Type 0 where
+-- how far a call with an allowance of k steps has come: what is left of them gives the run, and the queue keeps its room
+pub record Running (s : Setting) (k : ℕ) (w₀ w : Worksheet) (room made : ℕ) : Type 0 where
+  pub same_room : room ≡ s.capacity
   pub within : made ≤ k
   pub asked : w.query ≡ w₀.query
   pub left : run (problem_of s w₀) (k - made) made w.state ≡ run (problem_of s w₀) k 0 w₀.state
+
+-- what `advance` needs of its steps
+pub ruleset step_by_step = (run_on, run_closed, run_out)

@@ -1,9 +1,9 @@
 -- The loops over the chain of a found label. Assumes nothing.
-use Rattle.std.proofs.Common.{◌≡◌, ℕ, zero, suc, ◌+◌, ◌-◌, ◌<◌, ◌≤◌, Bool, true, false, cond, eqb, ltb, List, [], ◌∷◌, ◌++◌, length, take, drop, set, Some, None, Option, sym, refl, ap, ◌∙◌, arith}
-use Rattle.std.specs.Bool.{then_some}
+use Rattle.std.proofs.Common.{◌≡◌, ℕ, zero, suc, ◌+◌, ◌-◌, ◌<◌, ◌≤◌, Bool, true, false, cond, eqb, ltb, List, [], ◌∷◌, ◌++◌, length, take, drop, set, min, Some, None, Option, sym, refl, ap, ◌∙◌, ⊎_elim, arith}
 use Rattle.std.proofs.lemmas.List.{drop-set, get_or-take, length-take}
-use Rattle.std.proofs.lemmas.Bool.{cond-true, cond-false, ne_eqb, eq-eqb}
+use Rattle.std.proofs.lemmas.Bool.{cond-true, cond-false, ne_eqb, eq-eqb, cases_eq}
 use Rattle.std.proofs.lemmas.Bool.Decides.{nat_tests}
+use Rattle.std.proofs.lemmas.Option.{cond_some}
 use Rattle.worksheet.specs.declared.records.Label.{Label}
 use Rattle.worksheet.specs.declared.records.Origin.{Origin}
 use Rattle.worksheet.specs.Steps.{label_at}
@@ -12,23 +12,7 @@ use Rattle.search.specs.Parts.{chain_length, laid}
 
 -- an origin that is inside stands before its label
 inside_below : (m i : ℕ) (b : Bool) (from : Option Origin) (o : Origin) → Some o ≡ cond b (origin_inside m i from) None → o.parent < i
-inside_below m i true (Some f) o e = grind (arith, nat_tests)
-inside_below m i true None o e = cc
-inside_below m i false from o e = cc
-
--- a chain that ends has the legs of the way back to it
-ends_there : (b : Bool) (js ks : List ℕ) → cond b (Some js) None ≡ Some ks → ks ≡ js
-ends_there true js ks e = cc
-ends_there false js ks e = cc
-
--- how long it is, if there is a label
-long_there : (b : Bool) (js : List ℕ) → then_some b (length js) ≡ chain_length (cond b (Some js) None)
-long_there true js = refl
-long_there false js = refl
-
-zero_by : (k : ℕ) → ((k ≡ 0 → ⊥) → ⊥) → k ≡ 0
-zero_by zero h = refl
-zero_by (suc k) h = absurd (h (λ e. omega arith))
+inside_below m i b from o e = grind (arith, nat_tests)
 
 module _ (m n : ℕ) (labels : List Label) where
   below : (i : ℕ) (o : Origin) → Some o ≡ origin_at m n labels i → o.parent < i
@@ -48,20 +32,29 @@ module _ (m n : ℕ) (labels : List Label) where
   chain_ends zero i js e = refl
   chain_ends (suc fuel) i js e = cond-true _ _ _ (eq-eqb _ _ e)
 
+  -- without a label no chain ends
+  none_ends : (fuel i : ℕ) (js : List ℕ) → n ≡ 0 → chain_from m n labels fuel i js ≡ None
+  unfolding chain_from
+  none_ends zero i js none = grind (arith, nat_tests)
+  none_ends (suc fuel) i js none = grind (arith, nat_tests)
+
   -- what is found is no shorter than the legs that were read before
   longer_by : (fuel : ℕ) (b : Bool) (o : Option Origin) (js ks : List ℕ) → ((i : ℕ) (more : List ℕ) → chain_from m n labels fuel i more ≡ Some ks → length more ≤ length ks)
       → cond b (at_first n js) (by_origin o (λ y. chain_from m n labels fuel y.parent (y.leg ∷ js))) ≡ Some ks → length js ≤ length ks
-  longer_by fuel true o js ks ih e = let all = ap length (ends_there (ltb 0 n) js ks e) in omega arith
+  longer_by fuel true o js ks ih e = let all = ap length (cond_some (ltb 0 n) js ks e).1 in omega arith
   longer_by fuel false None js ks ih e = cc
   longer_by fuel false (Some o) js ks ih e = let h = ih o.parent (o.leg ∷ js) e in omega arith
 
   longer : (fuel i : ℕ) (js ks : List ℕ) → chain_from m n labels fuel i js ≡ Some ks → length js ≤ length ks
   unfolding chain_from
-  longer zero i js ks e = let all = ap length (ends_there (ltb 0 n) js ks e) in omega arith
+  longer zero i js ks e = let all = ap length (cond_some (ltb 0 n) js ks e).1 in omega arith
   longer (suc fuel) i js ks e = longer_by fuel (eqb i 0) (origin_at m n labels i) js ks (λ j more h. longer fuel j more ks h) e
 
   abbrev whole : ℕ → Option (List ℕ)
   whole found = chain_from m n labels found found []
+
+  pub count_none : (found : ℕ) → n ≡ 0 → None ≡ chain_length (whole found)
+  count_none found none = ap chain_length (sym (none_ends found found [] none))
 
   -- so many legs lead from the label `at` to the label `found`
   pub record Counted (found at count : ℕ) : Type 0 where
@@ -87,8 +80,8 @@ module _ (m n : ℕ) (labels : List Label) where
     pub count_fails : (at ≡ 0 → ⊥) → None ≡ origin_at m n labels at → None ≡ chain_length (whole found)
     count_fails some e = ap chain_length (sym (ap (λ j. chain_from m n labels j at so_far.legs) (one_less some) ∙ chain_fails (found - (count + 1)) at so_far.legs some e) ∙ so_far.same)
 
-    pub count_ends : at ≡ 0 → then_some (ltb 0 n) count ≡ chain_length (whole found)
-    count_ends first = ap (then_some (ltb 0 n)) (sym so_far.long) ∙ long_there (ltb 0 n) so_far.legs ∙ ap chain_length (sym (chain_ends (found - count) at so_far.legs first) ∙ so_far.same)
+    pub count_ends : at ≡ 0 → 0 < n → Some count ≡ chain_length (whole found)
+    count_ends first some = let ends = sym (chain_ends (found - count) at so_far.legs first) ∙ so_far.same in let long = so_far.long in grind (arith, nat_tests)
 
   -- the last of `count` legs stand in the buffer from `place` on, and lead from the label `at` to the label `found`
   pub record Laying (found at place count : ℕ) (buffer before : List ℕ) : Type 0 where
@@ -121,12 +114,15 @@ module _ (m n : ℕ) (labels : List Label) where
         }
 
     module _ (counted : Some count ≡ chain_length (whole found)) where
-      abbrev Chain : Type 0
-      Chain = (ks : List ℕ) × (whole found ≡ Some ks) × (length ks ≡ count)
+      -- the chain that was counted
+      record Chain : Type 0 where
+        legs : List ℕ
+        is : whole found ≡ Some legs
+        long : length legs ≡ count
 
       chain_of : (o : Option (List ℕ)) → whole found ≡ o → Some count ≡ chain_length o → Chain
       chain_of None e c = cc
-      chain_of (Some ks) e c = (ks, e, cc)
+      chain_of (Some ks) e c = record { legs = ks; is = e; long = cc }
 
       chain : Chain
       chain = chain_of (whole found) refl counted
@@ -134,41 +130,45 @@ module _ (m n : ℕ) (labels : List Label) where
       -- there is room for each leg
       pub lay_fits : (o : Origin) → Some o ≡ origin_at m n labels at → 0 < place
       lay_fits o e =
-          let long = longer (found - suc (length so_far.legs)) o.parent (o.leg ∷ so_far.legs) chain.0 (link o e ∙ chain.1) in
-          omega (arith, long, chain.2, so_far.long)
+          let long = longer (found - suc (length so_far.legs)) o.parent (o.leg ∷ so_far.legs) chain.legs (link o e ∙ chain.is) in
+          omega (arith, long, chain.long, so_far.long)
 
       -- the loop ends at the first label
       ends_first : None ≡ origin_at m n labels at → at ≡ 0 → buffer ≡ laid (whole found) before
       ends_first e first =
-          let all : chain.0 ≡ so_far.legs = ends_there (ltb 0 n) so_far.legs chain.0 (sym (chain_ends (found - length so_far.legs) at so_far.legs first) ∙ so_far.same ∙ chain.1) in
-          let none : place ≡ 0 = omega (arith, ap length all, chain.2, so_far.long) in
-          ap (λ k. drop k buffer) (sym none) ∙ so_far.written ∙ ap (λ js. js ++ drop count before) (sym all) ∙ ap (λ k. chain.0 ++ drop k before) (sym chain.2) ∙ ap (λ o. laid o before) (sym chain.1)
+          let all : chain.legs ≡ so_far.legs = sym (cond_some (ltb 0 n) so_far.legs chain.legs (sym (chain_ends (found - length so_far.legs) at so_far.legs first) ∙ so_far.same ∙ chain.is)).1 in
+          let none : place ≡ 0 = omega (arith, ap length all, chain.long, so_far.long) in
+          ap (λ k. drop k buffer) (sym none) ∙ so_far.written ∙ ap (λ js. js ++ drop count before) (sym all) ∙ ap (λ k. chain.legs ++ drop k before) (sym chain.long) ∙ ap (λ o. laid o before) (sym chain.is)
 
       never_fails : None ≡ origin_at m n labels at → (at ≡ 0 → ⊥) → ⊥
       never_fails e some =
           let f = so_far.fuel in
           let one_fewer : found - length so_far.legs ≡ suc (found - suc (length so_far.legs)) = omega arith in
           let none : None ≡ whole found = sym (ap (λ j. chain_from m n labels j at so_far.legs) one_fewer ∙ chain_fails (found - suc (length so_far.legs)) at so_far.legs some e) ∙ so_far.same in
-          let clash : None ≡ Some chain.0 = none ∙ chain.1 in
+          let clash : None ≡ Some chain.legs = none ∙ chain.is in
           cc
 
       pub lay_ends : None ≡ origin_at m n labels at → buffer ≡ laid (whole found) before
-      lay_ends e = ends_first e (zero_by at (never_fails e))
+      lay_ends e = ⊎_elim (ends_first e) (λ some. absurd (never_fails e some)) (cases_eq at 0)
 
--- a chain does not look beyond the first n labels
-module _ (m n : ℕ) (labels : List Label) (recorded : n ≤ length labels) where
-  origin_front : (i : ℕ) → origin_at m n (take n labels) i ≡ origin_at m n labels i
+-- a chain does not look beyond the labels that are recorded
+module _ (m count : ℕ) (labels : List Label) where
+  abbrev front : List Label
+  front = take count labels
+
+  abbrev n : ℕ
+  n = min count (length labels)
+
+  origin_front : (i : ℕ) → origin_at m n front i ≡ origin_at m n labels i
   origin_front i = grind (arith, nat_tests, get_or-take)
 
-  chain_front : (fuel i : ℕ) (js : List ℕ) → chain_from m n (take n labels) fuel i js ≡ chain_from m n labels fuel i js
+  chain_front : (fuel i : ℕ) (js : List ℕ) → chain_from m n front fuel i js ≡ chain_from m n labels fuel i js
   unfolding chain_from
   chain_front zero i js = refl
   chain_front (suc fuel) i js = λ j. cond (eqb i 0) (at_first n js) (by_origin (origin_front i j) (λ o. chain_front fuel o.parent (o.leg ∷ js) j))
 
-  pub whole_front : (found : ℕ) → chain_from m (length (take n labels)) (take n labels) found found [] ≡ chain_from m n labels found found []
-  whole_front found =
-      let long : length (take n labels) ≡ n = grind (arith, length-take) in
-      ap (λ k. chain_from m k (take n labels) found found []) long ∙ chain_front found found []
+  pub whole_front : (found : ℕ) → chain_from m (length front) front found found [] ≡ chain_from m n labels found found []
+  whole_front found = ap (λ k. chain_from m k front found found []) (length-take count labels) ∙ chain_front found found []
 
--- what `trace` needs of the recorded labels
-pub ruleset front_chains = (nat_tests, whole_front)
+-- what `trace` needs of the recorded labels and of the legs
+pub ruleset front_chains = (nat_tests, whole_front, length-take)

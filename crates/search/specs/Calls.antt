@@ -1,5 +1,5 @@
 -- When the calls of a search are refused, and what they make of a worksheet. Assumes nothing.
-use Rattle.std.specs.Prelude.{◌≡◌, ℕ, zero, suc, ◌+◌, ◌^◌, ◌<◌, min, Bool, false, cond, ◌&&◌, List, [], ◌∷◌, ◌++◌, length, drop, Some, None, Ok, Err, Option, Result, ◌==◌, nat_le, nat_lt, slice_index_or}
+use Rattle.std.specs.Prelude.{◌≡◌, ℕ, zero, suc, ◌+◌, ◌^◌, ◌<◌, min, Bool, false, ◌&&◌, List, [], ◌∷◌, ◌++◌, length, drop, Some, None, Ok, Err, Option, Result, ◌==◌, nat_le, nat_lt, slice_index_or, if◌then◌else◌, option_and_then}
 use Rattle.network.specs.declared.estimates.Bound.{Bound}
 use Rattle.network.specs.declared.legs.Leg.{Leg}
 use Rattle.network.specs.declared.legs.Network.{Network}
@@ -112,37 +112,36 @@ ran n s = record { made = n; after = s }
 -- At most k more steps, after `made` of them, while the search is open.
 unfoldable pub run : Problem → ℕ → ℕ → State → Run
 run p zero made s = ran made s
-run p (suc k) made s = cond (is_open s.phase) (run p k (made + 1) (step p s)) (ran made s)
+run p (suc k) made s = if is_open s.phase then run p k (made + 1) (step p s) else ran made s
 
 abbrev pub run_outcome : Worksheet → Run → Outcome (Result ℕ Refusal)
-run_outcome w r = outcome (Ok r.made) (record { query = w.query; state = r.after })
+run_outcome w r = outcome (Ok r.made) (record w { state = r.after })
 
 -- Advance by an allowance of k steps: refused in a phase other than open, it changes nothing.
 abbrev pub advancing : Setting → ℕ → Worksheet → Outcome (Result ℕ Refusal)
-advancing s k w = cond (is_open w.state.phase) (run_outcome w (run (problem_of s w) k 0 w.state)) (outcome (Err why.NotOpen) w)
+advancing s k w = if is_open w.state.phase then run_outcome w (run (problem_of s w) k 0 w.state) else outcome (Err why.NotOpen) w
 
 -- A label's origin, unless it is absent, or its parent or leg leads outside: m legs, and a parent not below its label.
 abbrev pub origin_inside : ℕ → ℕ → Option Origin → Option Origin
 origin_inside m i None = None
-origin_inside m i (Some o) = cond (nat_lt o.parent i && nat_lt o.leg m) (Some o) None
+origin_inside m i (Some o) = if (nat_lt o.parent i && nat_lt o.leg m) then Some o else None
 
 -- The same of label i, of n labels.
 abbrev pub origin_at : ℕ → ℕ → List Label → ℕ → Option Origin
-origin_at m n labels i = cond (nat_lt i n) (origin_inside m i (label_at labels i).from) None
+origin_at m n labels i = if nat_lt i n then origin_inside m i (label_at labels i).from else None
 
 abbrev pub at_first : ℕ → List ℕ → Option (List ℕ)
-at_first n js = cond (nat_lt 0 n) (Some js) None
+at_first n js = if nat_lt 0 n then Some js else None
 
 abbrev pub by_origin : Option Origin → (Origin → Option (List ℕ)) → Option (List ℕ)
-by_origin None go = None
-by_origin (Some o) go = go o
+by_origin o go = option_and_then go o
 
 -- The legs from label 0 to label i, before those of js, unless a number leads outside. The chain has at most as many links
 -- as the fuel; i of them always suffice, since a parent stands before its label.
 unfoldable pub chain_from : ℕ → ℕ → List Label → ℕ → ℕ → List ℕ → Option (List ℕ)
 chain_from m n labels zero i js = at_first n js
 chain_from m n labels (suc fuel) i js =
-    cond (i == 0) (at_first n js) (by_origin (origin_at m n labels i) (λ o. chain_from m n labels fuel o.parent (o.leg ∷ js)))
+    if i == 0 then at_first n js else by_origin (origin_at m n labels i) (λ o. chain_from m n labels fuel o.parent (o.leg ∷ js))
 
 -- The legs to label i: labels count as far as they are written and have a record, legs as far as the table has them.
 abbrev pub chain : Network → List Leg → ℕ → List Label → ℕ → Option (List ℕ)
@@ -158,14 +157,11 @@ traced r b = record { answer = r; buffer = b }
 
 abbrev pub chain_laid : Option (List ℕ) → List ℕ → Traced
 chain_laid None b = traced (Err why.Outside) b
-chain_laid (Some js) b = cond (nat_le (length js) (length b)) (traced (Ok (length js)) (js ++ drop (length js) b)) (traced (Err why.BufferShort) b)
+chain_laid (Some js) b = if nat_le (length js) (length b) then traced (Ok (length js)) (js ++ drop (length js) b) else traced (Err why.BufferShort) b
 
 abbrev pub traced_in : Network → List Leg → ℕ → List Label → Phase → List ℕ → Traced
-traced_in net table count labels phase.Fresh b = traced (Err why.NotFound) b
-traced_in net table count labels phase.Open b = traced (Err why.NotFound) b
 traced_in net table count labels (phase.Found i m) b = chain_laid (chain net table count labels i) b
-traced_in net table count labels phase.Exhausted b = traced (Err why.NotFound) b
-traced_in net table count labels (phase.Stopped w) b = traced (Err why.NotFound) b
+traced_in net table count labels p b = traced (Err why.NotFound) b
 
 -- Trace: the found leg numbers at the buffer's start. Refused, the buffer stays as it was: nothing was found, a number of the
 -- chain leads outside, or the buffer is too short.

@@ -49,11 +49,11 @@ impl Search {
             return None;
         }
         let bound = lent.estimate.at(leg.head)?;
-        let delay = from.label.mark.delay as u64 + leg.delay();
-        if delay + bound.delay as u64 > self.query.limit as u64 {
+        let delay = u64::from(from.label.mark.delay) + leg.delay();
+        if delay + u64::from(bound.delay) > u64::from(self.query.limit) {
             return None;
         }
-        if delay >= least[leg.head as usize] as u64 {
+        if delay >= u64::from(least[usize::from(leg.head)]) {
             return None;
         }
         let price = lent.tariff.price(leg.fee, leg.grade);
@@ -103,6 +103,7 @@ impl Search {
 
     // Tries each leg from the label's site in order, until there is no room for a label that is due: it answers why the
     // search stops.
+    #[tactic(auto, using(crate::proofs::Trying::leg_by_leg))]
     pub(crate) fn expand<Q: Queue, T: Tariff, E: Estimate>(
         &mut self,
         from: Taken,
@@ -112,13 +113,12 @@ impl Search {
         queue: &mut Q,
     ) -> Result<(), Stop>
         requires going { is_open self.old.phase ≡ true }
-        requires whole { lent.now.network.now.legs ≤ length lent.now.table.now }
         requires inside { list_all (leg_inside (length least.now) from.label.site) (legs_of lent.now.network.now lent.now.table.now) ≡ true }
         ensures after { settled result (worksheet self.new labels.new least.now (Q.bag queue.new)) ≡ with_state (worksheet self.old labels.old least.now (Q.bag queue.old)) (expand_of (problem_of (setting_of T.terms E.at lent.now labels.old least.now (Q.room queue.old)) (worksheet self.old labels.old least.now (Q.bag queue.old))) from.number from.label 0 (legs_of lent.now.network.now lent.now.table.now) (worksheet self.old labels.old least.now (Q.bag queue.old)).state) }
         ensures same_phase { self.new.phase ≡ self.old.phase }
         ensures same_room { Q.room queue.new ≡ Q.room queue.old }
     {
-        let legs = &lent.table[..lent.network.legs as usize];
+        let legs = lent.network.legs_in(lent.table);
         for (i, leg) in legs.iter().enumerate() {
             if let Some(due) = self.due(from, i as u16, leg, lent, least) {
                 self.add(due, labels, queue)?;

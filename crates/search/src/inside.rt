@@ -5,13 +5,14 @@ ghost use Rattle.search.specs.Parts.{leads_inside, leg_inside, all_inside, label
 use crate::lent::Lent;
 use crate::record::Search;
 use network::legs::*;
+use network::limits::LAST_MEDIUM;
 use worksheet::records::*;
 
 // The leg has a medium and leads to one of the sites that have a least-delay record.
 fn leads_inside(leg: &Leg, records: usize) -> bool
     ensures { result ≡ leads_inside records leg.now }
 {
-    (leg.head as usize) < records && leg.medium <= 7
+    usize::from(leg.head) < records && leg.medium <= LAST_MEDIUM
 }
 
 // The same, if it leaves the site.
@@ -25,8 +26,10 @@ fn leg_inside(leg: &Leg, site: u16, records: usize) -> bool
 pub(crate) fn all_inside(network: &Network, table: &[Leg], records: usize) -> bool
     ensures { result ≡ all_inside records network.now table.now }
 {
-    let n = network.legs as usize;
-    n <= table.len() && table[..n].iter().all(|leg| leads_inside(leg, records))
+    let Some(legs) = table.get(..usize::from(network.legs)) else {
+        return false;
+    };
+    legs.iter().all(|leg| leads_inside(leg, records))
 }
 
 impl Search {
@@ -43,11 +46,8 @@ impl Search {
         requires { sound ≡ all_inside records lent.now.network.now lent.now.table.now }
         ensures { result ≡ label_inside records lent.now.network.now lent.now.table.now self.now.count labels.now i }
     {
-        if i >= self.count {
-            return None;
-        }
-        let label = *labels.get(i)?;
-        let legs = lent.table.get(..lent.network.legs as usize)?;
+        let label = *self.recorded(labels).get(i)?;
+        let legs = lent.table.get(..usize::from(lent.network.legs))?;
         if usize::from(label.site) >= records {
             return None;
         }

@@ -13,10 +13,13 @@ use crate::lent::Lent;
 use crate::record::Search;
 use network::estimates::{Bound, Estimate};
 use network::legs::*;
+use network::limits::MOST_LIMIT;
 use network::refusals::Refusal;
 use network::tariffs::Tariff;
 use queue::interface::Queue;
 use worksheet::records::*;
+
+const MOST_LABELS: usize = 65_536;
 
 // Start and goal are sites of the network.
 fn ends_fit(network: &Network, query: Query) -> bool
@@ -29,7 +32,7 @@ fn ends_fit(network: &Network, query: Query) -> bool
 fn tables_fit(sites: u16, labels: usize, records: usize, capacity: usize) -> bool
     ensures { result ≡ tables_fit sites labels records capacity }
 {
-    (1..=65_536).contains(&labels) && 1 <= capacity && sites as usize <= records
+    (1..=MOST_LABELS).contains(&labels) && 1 <= capacity && usize::from(sites) <= records
 }
 
 // The estimate at the goal is 0 and 0.
@@ -44,12 +47,11 @@ fn keeps_rules<T: Tariff, E: Estimate>(leg: &Leg, tariff: &T, estimate: &E) -> b
     ensures value { result ≡ leg_keeps_rules (graph (T.terms tariff.now) []) (E.at estimate.now) leg.now }
     ensures cost_fits { CostFits (E.at estimate.now) leg.now.head }
 {
-    let Some(head) = estimate.at(leg.head) else {
-        return true;
-    };
-    estimate.at(leg.tail).is_some_and(|tail| {
-        tail.cost <= tariff.join(tariff.price(leg.fee, leg.grade), head.cost)
-            && tail.delay as u64 <= leg.delay() + head.delay as u64
+    estimate.at(leg.head).is_none_or(|head| {
+        estimate.at(leg.tail).is_some_and(|tail| {
+            tail.cost <= tariff.join(tariff.price(leg.fee, leg.grade), head.cost)
+                && u64::from(tail.delay) <= leg.delay() + u64::from(head.delay)
+        })
     })
 }
 
@@ -65,7 +67,7 @@ fn first_unlawful<T: Tariff, E: Estimate>(legs: &[Leg], tariff: &T, estimate: &E
 }
 
 // Refuses an open by the first test that fails.
-#[tactic(auto, using(crate::proofs::Opens::test_by_test), unfolding(crate::specs::Calls::open_refusal))]
+#[tactic(auto, using(network::proofs::Checking::test_by_test), unfolding(crate::specs::Calls::open_refusal))]
 fn admit<Q: Queue, T: Tariff, E: Estimate>(
     query: Query,
     lent: &Lent<T, E>,
@@ -76,7 +78,7 @@ fn admit<Q: Queue, T: Tariff, E: Estimate>(
     ensures value { result ≡ answer_by (open_refusal (setting_of T.terms E.at lent.now labels.now least.now (Q.room queue.now)) query) }
     ensures costs_fit { OnOk result (HeadCostsFit (E.at lent.now.estimate.now) (legs_of lent.now.network.now lent.now.table.now)) }
 {
-    if query.limit > 1_000_000 {
+    if query.limit > MOST_LIMIT {
         return Err(Refusal::Size);
     }
     let network = lent.network;
@@ -90,7 +92,7 @@ fn admit<Q: Queue, T: Tariff, E: Estimate>(
     if !is_reached(lent.estimate, query.goal) {
         return Err(Refusal::GoalEstimate);
     }
-    let legs = &lent.table[..network.legs as usize];
+    let legs = network.legs_in(lent.table);
     if let Some(leg) = first_unlawful(legs, lent.tariff, lent.estimate) {
         return Err(Refusal::LegEstimate(leg));
     }
@@ -118,10 +120,9 @@ impl Search {
         *self = Search {
             query,
             phase: Phase::Open,
-            count: 0,
-            steps: 0,
+            ..Search::new()
         };
-        least[..lent.network.sites as usize].fill(query.limit + 1);
+        least[..usize::from(lent.network.sites)].fill(query.limit + 1);
         let start = lent.estimate.at(query.start);
         let Some(bound) = start.filter(|bound| bound.delay <= query.limit) else {
             return;
@@ -140,6 +141,7 @@ impl Search {
     }
 
     // Opens the search for a question, unless one of the refusals from 8 to 12 applies, which changes nothing.
+    #[tactic(auto, using(crate::proofs::Numbering::of_open), unfolding(crate::specs::Calls::open_refusal))]
     pub fn open<Q: Queue, T: Tariff, E: Estimate>(
         &mut self,
         query: Query,

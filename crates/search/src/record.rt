@@ -1,5 +1,5 @@
 // The search record, and what it tells.
-ghost use Rattle.std.specs.Prelude.{◌≡◌};
+ghost use Rattle.std.specs.Prelude.{◌≡◌, take};
 ghost use Rattle.search.specs.Record.{fresh, is_open_in, standing_of, verdict_of};
 
 use network::refusals::Stop;
@@ -7,7 +7,7 @@ use worksheet::records::*;
 
 // What a search is asked, how far it has come, how many labels it has written, and how many steps it has made since it was
 // opened.
-#[derive(Clone, Copy, PartialEq, Eq, Debug)]
+#[derive(Clone, Copy, PartialEq, Eq, Default, Debug)]
 pub struct Search {
     pub query: Query,
     pub phase: Phase,
@@ -52,12 +52,14 @@ impl Search {
     pub fn new() -> Search
         ensures { result ≡ fresh }
     {
-        Search {
-            query: Query::default(),
-            phase: Phase::Fresh,
-            count: 0,
-            steps: 0,
-        }
+        Search::default()
+    }
+
+    // The labels that are written and have a record.
+    pub(crate) fn recorded<'a>(&self, labels: &'a [Label]) -> &'a [Label]
+        ensures { result.now ≡ take self.now.count labels.now }
+    {
+        &labels[..self.count.min(labels.len())]
     }
 
     // Whether steps can be made.

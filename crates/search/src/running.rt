@@ -15,6 +15,7 @@ use worksheet::records::*;
 impl Search {
     // Makes steps until `allowance` of them are made or the search is no longer open, and answers how many were made. It
     // is refused in a phase other than open, which changes nothing.
+    #[tactic(auto, using(crate::proofs::Runs::step_by_step))]
     pub fn advance<Q: Queue, T: Tariff, E: Estimate>(
         &mut self,
         allowance: u32,

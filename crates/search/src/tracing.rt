@@ -1,48 +1,57 @@
 // The legs of a found walk, read off the labels from the goal back to the start.
-ghost use Rattle.std.specs.Prelude.{◌≡◌, ◌≤◌, [], length, Some};
-ghost use Rattle.search.specs.Calls.{origin_at, chain_from, traced, tracing};
-ghost use Rattle.search.specs.Parts.{chain_length as length_of, laid};
+ghost use Rattle.std.specs.Prelude.{◌≡◌, ◌≤◌, length, Some};
+ghost use Rattle.search.specs.Calls.{origin_at, traced, tracing};
+ghost use Rattle.search.specs.Parts.{chain_of, chain_length as length_of, laid};
 
 use crate::record::Search;
 use network::legs::*;
 use network::refusals::Refusal;
 use worksheet::records::*;
 
-// The origin of label `i`, unless it is absent or leads outside the labels or the first `m` legs.
-fn origin(labels: &[Label], i: usize, m: usize) -> Option<Origin>
-    ensures { result ≡ origin_at m (length labels.now) labels.now i }
-{
-    labels
-        .get(i)?
-        .from
-        .filter(|origin| origin.parent < i && (origin.leg as usize) < m)
+// The chain to the label `found`, over these labels and the first `legs` legs.
+#[derive(Drop)]
+struct Chain<'a> {
+    labels: &'a [Label],
+    legs: usize,
+    found: usize,
 }
 
-// The number of legs from label 0 to the label `found`, unless the chain leads outside.
-fn chain_length(labels: &[Label], found: usize, m: usize) -> Option<usize>
-    ensures { result ≡ length_of (chain_from m (length labels.now) labels.now found found []) }
-{
-    let mut at = found;
-    let mut legs = 0;
-    while at != 0 {
-        at = origin(labels, at, m)?.parent;
-        legs += 1;
+impl Chain<'_> {
+    // The origin of label `i`, unless it is absent or leads outside the labels or the legs.
+    fn origin(&self, i: usize) -> Option<Origin>
+        ensures { result ≡ origin_at self.now.legs (length self.now.labels.now) self.now.labels.now i }
+    {
+        let origin = self.labels.get(i)?.from?;
+        (origin.parent < i && usize::from(origin.leg) < self.legs).then_some(origin)
     }
-    (!labels.is_empty()).then_some(legs)
-}
 
-// Writes the `legs` leg numbers of the chain to the label `found`, the last first.
-fn write_chain(labels: &[Label], found: usize, m: usize, legs: usize, buffer: &mut [u16])
-    requires long { Some legs ≡ length_of (chain_from m (length labels.now) labels.now found found []) }
-    requires fits { legs ≤ length buffer.old }
-    ensures { buffer.new ≡ laid (chain_from m (length labels.now) labels.now found found []) buffer.old }
-{
-    let mut at = found;
-    let mut place = legs;
-    while let Some(origin) = origin(labels, at, m) {
-        place -= 1;
-        buffer[place] = origin.leg;
-        at = origin.parent;
+    // The number of its legs, unless it leads outside.
+    fn length(&self) -> Option<usize>
+        ensures { result ≡ length_of (chain_of self.now) }
+    {
+        self.labels.first()?;
+        let mut at = self.found;
+        let mut count = 0;
+        while at != 0 {
+            at = self.origin(at)?.parent;
+            count += 1;
+        }
+        Some(count)
+    }
+
+    // Writes its `count` leg numbers, the last first.
+    fn write(&self, count: usize, buffer: &mut [u16])
+        requires long { Some count ≡ length_of (chain_of self.now) }
+        requires fits { count ≤ length buffer.old }
+        ensures { buffer.new ≡ laid (chain_of self.now) buffer.old }
+    {
+        let mut at = self.found;
+        let mut place = count;
+        while let Some(origin) = self.origin(at) {
+            place -= 1;
+            buffer[place] = origin.leg;
+            at = origin.parent;
+        }
     }
 }
 
@@ -63,13 +72,16 @@ impl Search {
         let Phase::Found(found, _) = self.phase else {
             return Err(Refusal::NotFound);
         };
-        let labels = &labels[..self.count.min(labels.len())];
-        let m = (network.legs as usize).min(table.len());
-        let legs = chain_length(labels, found, m).ok_or(Refusal::Outside)?;
-        if legs > buffer.len() {
+        let chain = Chain {
+            labels: self.recorded(labels),
+            legs: network.legs_in(table).len(),
+            found,
+        };
+        let count = chain.length().ok_or(Refusal::Outside)?;
+        if count > buffer.len() {
             return Err(Refusal::BufferShort);
         }
-        write_chain(labels, found, m, legs, buffer);
-        Ok(legs)
+        chain.write(count, buffer);
+        Ok(count)
     }
 }

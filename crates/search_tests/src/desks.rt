@@ -35,16 +35,23 @@ fn plans_from_one_tally(rt: HostRuntime) -> Result<(), Fail> {
     let mut tally = Tally::of(8);
 
     let cheapest = desk.serve(from_0_to_3(9), &network, &table, &TotalFee, &mut tally);
-    assert!(rt; cheapest == found(4, 9));
-    assert!(rt; desk.route(rt.alloc(), &network, &table)?.as_slice() == [0, 1].as_slice());
+    assert_eq!(rt; cheapest, found(4, 9));
+    assert_eq!(rt;
+        desk.route(rt.alloc(), &network, &table)?.as_slice(),
+        [0, 1].as_slice()
+    );
 
     let sooner = desk.serve(from_0_to_3(8), &network, &table, &TotalFee, &mut tally);
-    assert!(rt; sooner == found(5, 3));
-    assert!(rt; desk.route(rt.alloc(), &network, &table)?.as_slice() == [2, 3].as_slice());
+    assert_eq!(rt; sooner, found(5, 3));
+    assert_eq!(rt;
+        desk.route(rt.alloc(), &network, &table)?.as_slice(),
+        [2, 3].as_slice()
+    );
 
     let none = desk.serve(from_0_to_3(0), &network, &table, &TotalFee, &mut tally);
-    assert!(rt;
-        none == Ok(Verdict {
+    assert_eq!(rt;
+        none,
+        Ok(Verdict {
             standing: Standing::Exhausted,
             steps: 1
         })
@@ -52,13 +59,14 @@ fn plans_from_one_tally(rt: HostRuntime) -> Result<(), Fail> {
     assert!(rt; desk.route(rt.alloc(), &network, &table)?.is_empty());
 
     let open = desk.serve(from_0_to_3(9), &network, &table, &TotalFee, &mut tally);
-    assert!(rt;
-        open == Ok(Verdict {
+    assert_eq!(rt;
+        open,
+        Ok(Verdict {
             standing: Standing::Open,
             steps: 1
         })
     );
-    assert!(rt; tally == Tally::of(0));
+    assert_eq!(rt; tally, Tally::of(0));
     Ok(())
 }
 
@@ -70,7 +78,7 @@ fn one_site_too_many(rt: HostRuntime) -> Result<(), Fail> {
     let mut desk = Desk::<3>::new(rt.alloc(), 8)?;
     let mut tally = Tally::of(8);
     let refused = desk.serve(from_0_to_3(9), &network, &table, &TotalFee, &mut tally);
-    assert!(rt; refused == Err(Refusal::Room));
-    assert!(rt; tally == Tally::of(8));
+    assert_eq!(rt; refused, Err(Refusal::Room));
+    assert_eq!(rt; tally, Tally::of(8));
     Ok(())
 }

@@ -28,13 +28,11 @@ module _ (loaded : Bool) (n at line : ℕ) where
   plan_read [] p e = at_end loaded e
     where
       at_end : {X : Type 0} (b : Bool) → Ok (Some p) ≡ no_line b → X
-      at_end true e = cc
-      at_end false e = cc
+      at_end b e = absurd (grind arith)
   plan_read (r ∷ rs) p e = (r, rs, refl, by_answer (stated r) e)
     where
       by_answer : (o : Result Plan Refusal) → Ok (Some p) ≡ (by_plan at line (past at r) o).answer → o ≡ Ok p
-      by_answer (Err x) e = cc
-      by_answer (Ok q) e = let k : p ≡ q = cc in ap Ok (sym k)
+      by_answer o e = grind arith
 
   -- where none was read there was no line, after an accepted load
   pub count_end : (plans : ℕ) (rows : List Row) → Ok None ≡ (next_from loaded n at line rows).answer → Ok plans ≡ plans_from loaded n line plans rows
@@ -42,13 +40,11 @@ module _ (loaded : Bool) (n at line : ℕ) where
   count_end plans [] e = at_end loaded e
     where
       at_end : (b : Bool) → Ok None ≡ no_line b → Ok plans ≡ cond b (Ok plans) (Err (OutOfPlace line))
-      at_end true e = refl
-      at_end false e = cc
+      at_end b e = grind arith
   count_end plans (r ∷ rs) e = by_answer (stated r) e
     where
       by_answer : {X : Type 0} (o : Result Plan Refusal) → Ok None ≡ (by_plan at line (past at r) o).answer → X
-      by_answer (Err x) e = cc
-      by_answer (Ok q) e = cc
+      by_answer o e = absurd (grind arith)
 
   -- a refused line is the first refusal
   pub count_refused : (plans : ℕ) (rows : List Row) (x : Refusal) → Err x ≡ (next_from loaded n at line rows).answer → Err x ≡ plans_from loaded n line plans rows
@@ -56,13 +52,11 @@ module _ (loaded : Bool) (n at line : ℕ) where
   count_refused plans [] x e = at_end loaded e
     where
       at_end : (b : Bool) → Err x ≡ no_line b → Err x ≡ cond b (Ok plans) (Err (OutOfPlace line))
-      at_end true e = cc
-      at_end false e = let k : x ≡ OutOfPlace line = cc in ap Err k
+      at_end b e = grind arith
   count_refused plans (r ∷ rs) x e = by_answer (stated r) e
     where
       by_answer : (o : Result Plan Refusal) → Err x ≡ (by_plan at line (past at r) o).answer → Err x ≡ on_plan o (plans_from loaded n (one_more line) (one_more plans) rs)
-      by_answer (Err y) e = let k : x ≡ y = cc in ap Err k
-      by_answer (Ok q) e = cc
+      by_answer o e = grind arith
 
 -- what one more plan leaves: the same count in the end, and a line less
 pub record More (n plans : ℕ) (s s' : Reader) : Type 0 where
@@ -95,5 +89,4 @@ some_read None e = cc
 some_read (Some p) e = (p, refl)
 
 pub none_read : (o : Option Plan) → is_some o ≡ false → o ≡ None
-none_read None e = refl
-none_read (Some p) e = cc
+none_read o e = grind arith

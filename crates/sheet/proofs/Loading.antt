@@ -5,27 +5,22 @@ use Rattle.network.specs.declared.legs.Leg.{Leg}
 use Rattle.network.specs.declared.legs.Network.{Network}
 use Rattle.network.specs.declared.plans.Plan.{Plan}
 use Rattle.sheet.specs.declared.reader.Reader.{Reader}
-use Rattle.sheet.specs.Calls.{answered, answer_of, replaced, network_after, reader_after, moved, fronted, rows_left}
+use Rattle.sheet.specs.Calls.{answered, answer_of, replaced, network_after, reader_after, moved, fronted, legs_ahead, rows_left}
 use Rattle.sheet.specs.Entries.{leg_entry}
 use Rattle.network.specs.declared.refusals.Refusal.{Refusal}
-use Rattle.network.specs.declared.refusals.Refusal.TheVariants.{Unended, UnknownWord, OutOfPlace}
+use Rattle.network.specs.declared.refusals.Refusal.TheVariants.{Unended, UnknownWord, OutOfPlace, TableFull}
 use Rattle.sheet.specs.Text.{Row, lines, fields}
 use Rattle.sheet.specs.Words.{Kind, kind_by_word, network, leg, plan}
 use Rattle.sheet.specs.Sheets.{placed, line_ahead, row_kind, past, some_placed, or_refuse, and_then, one_more, leg_stated, with_room, has_room, by_leg, legs_from, load, Load, sized, by_sites, loaded_from, sites_stated, Next, next_from, by_plan, plan_stated}
 use Rattle.sheet.proofs.Lining.{lines_rest}
 
--- what follows from two constructors that are equal
-pub never : {X : Type 0} → ◌≡◌ {A = ℕ} 0 1 → X
-never e = let b : ⊥ = omega arith in absurd b
-
 -- what the answer on the line ahead says of the lines that are left
 pub none_left : (line at : ℕ) (rows : List Row) → Ok None ≡ line_ahead line at rows → rows ≡ []
 none_left line at [] e = refl
-none_left line at (r ∷ rs) e = never (none_kind (row_kind line r) e)
+none_left line at (r ∷ rs) e = absurd (none_kind (row_kind line r) e)
   where
-    none_kind : (k : Result Kind Refusal) → Ok None ≡ some_placed (past at r) k → ◌≡◌ {A = ℕ} 0 1
-    none_kind (Ok t) e = cc
-    none_kind (Err x) e = cc
+    none_kind : (k : Result Kind Refusal) → Ok None ≡ some_placed (past at r) k → ⊥
+    none_kind k e = grind arith
 
 -- a first line that is refused
 pub refused_line : (line at : ℕ) (rows : List Row) (x : Refusal) → Err x ≡ line_ahead line at rows → (r : Row) × (rs : List Row) × (rows ≡ r ∷ rs) × (row_kind line r ≡ Err x)
@@ -33,8 +28,7 @@ refused_line line at [] x e = cc
 refused_line line at (r ∷ rs) x e = (r, rs, refl, at_kind (row_kind line r) e)
   where
     at_kind : (k : Result Kind Refusal) → Err x ≡ some_placed (past at r) k → k ≡ Err x
-    at_kind (Ok t) e = cc
-    at_kind (Err y) e = let k : x ≡ y = cc in ap Err (sym k)
+    at_kind k e = grind arith
 
 -- a first line of a known kind
 pub kind_line : (line at : ℕ) (rows : List Row) (t : Kind) (k : ℕ) → Ok (Some (placed k t)) ≡ line_ahead line at rows → (r : Row) × (rs : List Row) × (rows ≡ r ∷ rs) × (row_kind line r ≡ Ok t) × (k ≡ past at r)
@@ -50,8 +44,7 @@ pub ended_line : (line : ℕ) (r : Row) (t : Kind) → row_kind line r ≡ Ok t 
 ended_line line r t e = by_end r.ended e
   where
     by_end : (b : Bool) → cond b (or_refuse (UnknownWord line) (kind_by_word r.bytes)) (Err (Unended line)) ≡ Ok t → b ≡ true
-    by_end true e = refl
-    by_end false e = cc
+    by_end b e = grind arith
 
 -- the lines after a line of a known kind
 pub rows_after : (line at : ℕ) (sheet : List ℕ) (r : Row) (rs : List Row) (t : Kind) (k : ℕ) → lines (drop at sheet) ≡ r ∷ rs → row_kind line r ≡ Ok t → k ≡ past at r → rs ≡ lines (drop k sheet)
@@ -103,13 +96,39 @@ module _ (n room at line : ℕ) (ls : List Leg) where
         ∙ ap (λ p. legs_from n room p (one_more line) (ls ++ l ∷ []) b.1) (sym b.4)
         ∙ ap (legs_from n room k (one_more line) (ls ++ l ∷ [])) (rows_after line at sheet b.0 b.1 t k (sym s ∙ b.2) b.3 b.4))
 
--- where a reading of legs ends
-pub legs_done : (reader₀ reader : Reader) (table₀ table : List Leg) (m : ℕ) (r : Result Network Refusal) (o : Load) → load r (take m table) reader.place reader.line ≡ o → m ≤ length table → table ≡ take m table ++ drop m table₀ → reader ≡ moved reader₀ reader.place reader.line → (r ≡ o.outcome) × (reader ≡ moved reader₀ o.at o.line) × (table ≡ fronted o.legs table₀)
-legs_done reader₀ reader table₀ table m r o e le t h = (
-  ap (λ x. x.outcome) e,
-  h ∙ ap (λ x. moved reader₀ x.at x.line) e,
-  t ∙ ap (λ k. take m table ++ drop k table₀) (sym (length-take-le m table le)) ∙ ap (λ x. fronted x.legs table₀) e,
-)
+-- m legs are read into the front of a table for n sites
+module _ (n : ℕ) (reader₀ reader : Reader) (table₀ table : List Leg) (m : ℕ) where
+  pub record LegsRead : Type 0 where
+    pub few : m ≤ 4096
+    pub within : m ≤ length table
+    pub front : table ≡ take m table ++ drop m table₀
+    pub moves : reader ≡ moved reader₀ reader.place reader.line
+    pub left : legs_from n (length table₀) reader.place reader.line (take m table) (rows_left reader) ≡ legs_ahead n (length table₀) reader₀
+
+  -- where a reading of legs ends
+  pub legs_done : LegsRead → (r : Result Network Refusal) → load r (take m table) reader.place reader.line ≡ legs_from n (length table₀) reader.place reader.line (take m table) (rows_left reader)
+      → let o = legs_ahead n (length table₀) reader₀ in (r ≡ o.outcome) × (reader ≡ moved reader₀ o.at o.line) × (table ≡ fronted o.legs table₀)
+  legs_done x r e =
+      let o = e ∙ x.left in (
+        ap (λ (y : Load). y.outcome) o,
+        x.moves ∙ ap (λ (y : Load). moved reader₀ y.at y.line) o,
+        x.front ∙ ap (λ k. take m table ++ drop k table₀) (sym (length-take-le m table x.within)) ∙ ap (λ (y : Load). fronted y.legs table₀) o,
+      )
+
+-- what a line states where there is room for one more leg, and where there is none
+abbrev roomed : ℕ → Bool → Result (Option Leg) Refusal → Result (Option Leg) Refusal
+roomed line free (Ok (Some l)) = cond free (Ok (Some l)) (Err (TableFull line))
+roomed line free (Ok None) = Ok None
+roomed line free (Err x) = Err x
+
+stated_room : (n line : ℕ) (b : Bool) (t : Kind) → roomed line b (leg_stated n line true t) ≡ leg_stated n line b t
+stated_room n line b (network t) = refl
+stated_room n line b (plan t) = refl
+stated_room n line b (leg t) = by_entry (leg_entry n line (fields t))
+  where
+    by_entry : (r : Result Leg Refusal) → roomed line b (with_room line true r) ≡ with_room line b r
+    by_entry (Err x) = refl
+    by_entry (Ok l) = refl
 
 -- the same ways, over the table that the legs go into
 module _ (n room m : ℕ) (reader : Reader) (table : List Leg) (le : m ≤ length table) where
@@ -124,34 +143,31 @@ module _ (n room m : ℕ) (reader : Reader) (table : List Leg) (le : m ≤ lengt
       ap (λ k. load (Ok (record { sites = n; legs = k })) (take m table) reader.place reader.line) (sym count)
       ∙ legs_end n room reader.place reader.line (take m table) (rows_left reader) e
 
-  module _ (t : Kind) (k : ℕ) (b : Bool) (e : Ok (Some (placed k t)) ≡ line_ahead reader.line reader.place (rows_left reader)) (f : b ≡ has_room room m) where
-    free : b ≡ has_room room (length (take m table))
-    free = f ∙ ap (has_room room) (sym count)
+  module _ (t : Kind) (k number : ℕ) (e : Ok (Some (placed k t)) ≡ line_ahead reader.line reader.place (rows_left reader)) (same : number ≡ reader.line) where
+    by_room : (b : Bool) (o : Result (Option Leg) Refusal) → b ≡ has_room room m → o ≡ leg_stated n number true t → roomed reader.line b o ≡ leg_stated n reader.line (has_room room (length (take m table))) t
+    by_room b o f h =
+        ap (roomed reader.line b) (h ∙ ap (λ i. leg_stated n i true t) same)
+        ∙ stated_room n reader.line b t
+        ∙ ap (λ x. leg_stated n reader.line x t) (f ∙ ap (has_room room) (sym count))
 
-    pub table_stop : Ok None ≡ leg_stated n reader.line b t → load (Ok (record { sites = n; legs = m })) (take m table) reader.place reader.line ≡ rest
+    pub table_stop : Ok None ≡ leg_stated n number true t → load (Ok (record { sites = n; legs = m })) (take m table) reader.place reader.line ≡ rest
     table_stop h =
         ap (λ k. load (Ok (record { sites = n; legs = k })) (take m table) reader.place reader.line) (sym count)
-        ∙ legs_stop n room reader.place reader.line (take m table) (rows_left reader) t k e (h ∙ ap (λ x. leg_stated n reader.line x t) free)
+        ∙ legs_stop n room reader.place reader.line (take m table) (rows_left reader) t k e (by_room (has_room room m) (Ok None) refl h)
 
-    pub table_bad : (x : Refusal) → Err x ≡ leg_stated n reader.line b t → load (Err x) (take m table) reader.place reader.line ≡ rest
-    table_bad x h = legs_bad n room reader.place reader.line (take m table) (rows_left reader) t k e x (h ∙ ap (λ x. leg_stated n reader.line x t) free)
+    pub table_bad : (x : Refusal) → Err x ≡ leg_stated n number true t → load (Err x) (take m table) reader.place reader.line ≡ rest
+    table_bad x h = legs_bad n room reader.place reader.line (take m table) (rows_left reader) t k e x (by_room (has_room room m) (Err x) refl h)
 
-    pub table_go : (l : Leg) (line' : ℕ) → m < length table → Ok (Some l) ≡ leg_stated n reader.line b t → line' ≡ one_more reader.line → legs_from n room k line' (take (m + 1) (set table m l)) (lines (drop k reader.sheet.now)) ≡ rest
-    table_go l line' lt h s =
+    pub table_full : (l : Leg) → false ≡ has_room room m → Ok (Some l) ≡ leg_stated n number true t → load (Err (TableFull number)) (take m table) reader.place reader.line ≡ rest
+    table_full l f h =
+        ap (λ i. load (Err (TableFull i)) (take m table) reader.place reader.line) same
+        ∙ legs_bad n room reader.place reader.line (take m table) (rows_left reader) t k e (TableFull reader.line) (by_room false (Ok (Some l)) f h)
+
+    pub table_go : (l : Leg) (line' : ℕ) → m < length table → true ≡ has_room room m → Ok (Some l) ≡ leg_stated n number true t → line' ≡ one_more reader.line → legs_from n room k line' (take (m + 1) (set table m l)) (lines (drop k reader.sheet.now)) ≡ rest
+    table_go l line' lt f h s =
         ap (λ ls. legs_from n room k line' ls (lines (drop k reader.sheet.now))) (take_more_set table m l lt)
         ∙ ap (λ x. legs_from n room k x (take m table ++ l ∷ []) (lines (drop k reader.sheet.now))) s
-        ∙ legs_go n room reader.place reader.line (take m table) (rows_left reader) t k e reader.sheet.now l refl (h ∙ ap (λ x. leg_stated n reader.line x t) free)
-
--- a leg is stated only where there is room
-pub stated_free : (n line : ℕ) (b : Bool) (t : Kind) (l : Leg) → Ok (Some l) ≡ leg_stated n line b t → b ≡ true
-stated_free n line b (network t) l e = cc
-stated_free n line b (plan t) l e = cc
-stated_free n line b (leg t) l e = by_entry (leg_entry n line (fields t)) b e
-  where
-    by_entry : (r : Result Leg Refusal) (b : Bool) → Ok (Some l) ≡ with_room line b r → b ≡ true
-    by_entry (Err x) b e = cc
-    by_entry (Ok x) true e = refl
-    by_entry (Ok x) false e = cc
+        ∙ legs_go n room reader.place reader.line (take m table) (rows_left reader) t k e reader.sheet.now l refl (by_room true (Ok (Some l)) f h)
 
 -- one more leg at the table's front
 pub front_more : (table table₀ : List Leg) (m : ℕ) (l : Leg) → m < length table → table ≡ take m table ++ drop m table₀ → set table m l ≡ take (m + 1) (set table m l) ++ drop (m + 1) table₀

@@ -1,5 +1,5 @@
 -- With each plan that a reader reads, less of its sheet is left. Assumes nothing.
-use Rattle.std.proofs.Common.{◌≡◌, ℕ, ◌-◌, ◌<◌, Bool, true, false, List, [], ◌∷◌, length, drop, Some, Ok, Err, Result, refl, ap, ◌∙◌, inl, inr, arith}
+use Rattle.std.proofs.Common.{◌≡◌, ℕ, ◌-◌, ◌<◌, Bool, true, false, List, [], ◌∷◌, length, drop, Some, Ok, Result, refl, ap, ◌∙◌, inl, inr, arith}
 use Rattle.std.proofs.lemmas.List.{drop_all}
 use Rattle.std.proofs.lemmas.Bool.{cases_lt}
 use Rattle.network.specs.declared.plans.Plan.{Plan}
@@ -12,8 +12,7 @@ use Rattle.sheet.specs.Calls.{moved, next_of, rows_left}
 -- where a plan was read there was a line, and the place moves on
 module _ (n at line : ℕ) (p : Plan) where
   moves_by : (r : Row) (o : Result Plan Refusal) → Ok (Some p) ≡ (by_plan at line (past at r) o).answer → at < (by_plan at line (past at r) o).at
-  moves_by r (Err x) e = cc
-  moves_by r (Ok q) e = omega arith
+  moves_by r o e = grind arith
 
   moves : (loaded : Bool) (rows : List Row) → Ok (Some p) ≡ (next_from loaded n at line rows).answer → (at < (next_from loaded n at line rows).at) × (rows ≡ [] → ⊥)
   moves true [] e = cc

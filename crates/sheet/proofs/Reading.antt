@@ -1,8 +1,8 @@
 -- The line at a reader's place. Assumes nothing.
-use Rattle.std.proofs.Common.{◌≡◌, ℕ, ◌+◌, ◌-◌, ◌<◌, ◌≤◌, eqb, List, length, take, drop, Some, None, Ok, Err, Option, sym, ap, ◌∙◌, inl, inr, arith, length-drop}
-use Rattle.std.proofs.lemmas.Bool.{cases_lt, cond-true, cond-false, lt-ltb, le-ltb}
+use Rattle.std.proofs.Common.{◌≡◌, ℕ, ◌+◌, ◌-◌, ◌<◌, ◌≤◌, eqb, List, length, take, drop, Some, None, Ok, Err, Option, sym, ap, ◌∙◌, arith, length-drop}
+use Rattle.std.proofs.lemmas.Bool.Decides.{nat_tests}
 use Rattle.std.proofs.lemmas.List.{take_rest, drop_all}
-use Rattle.std.specs.List.{position, position_or_len}
+use Rattle.std.specs.List.{position}
 use Rattle.network.specs.declared.refusals.Refusal.TheVariants.{Unended, UnknownWord}
 use Rattle.sheet.specs.Text.{lines, upto}
 use Rattle.sheet.specs.Words.{Kind, kind_by_word}
@@ -17,25 +17,11 @@ end_place t = position (λ c. eqb c 10) t
 ended : (t : List ℕ) (end : ℕ) → Some end ≡ end_place t → (end ≡ length (upto 10 t)) × (end < length t)
 ended t end e =
     let k = upto_place 10 t in
-    elim (cases_lt (position_or_len (λ c. eqb c 10) t) (length t)) [
-      | inl lt ↦
-          let s = e ∙ cond-true _ _ _ (lt-ltb _ _ lt) in
-          let i : end ≡ position_or_len (λ c. eqb c 10) t = cc in
-          (omega arith, omega arith)
-      | inr le ↦
-          let s = e ∙ cond-false _ _ _ (le-ltb _ _ le) in
-          cc
-    ]
+    (grind (arith, nat_tests), grind (arith, nat_tests))
 
 unended : (t : List ℕ) → None ≡ end_place t → length t ≤ length (upto 10 t)
 unended t e =
-    let k = upto_place 10 t in
-    elim (cases_lt (position_or_len (λ c. eqb c 10) t) (length t)) [
-      | inl lt ↦
-          let s = e ∙ cond-true _ _ _ (lt-ltb _ _ lt) in
-          cc
-      | inr le ↦ omega arith
-    ]
+    let k = upto_place 10 t in grind (arith, nat_tests)
 
 module _ (line at : ℕ) (sheet : List ℕ) where
   pub ahead_end : length sheet ≤ at → Ok None ≡ line_ahead line at (lines (drop at sheet))

@@ -1,5 +1,6 @@
 -- What the calls of a reader come to. Assumes nothing.
 use Rattle.std.specs.Prelude.{ℕ, List, [], ◌++◌, length, drop, is_ok, Some, None, Ok, Err, Option, Result}
+use Rattle.std.specs.Result.{result_unwrap_or}
 use Rattle.network.specs.declared.legs.Leg.{Leg}
 use Rattle.network.specs.declared.legs.Network.{Network}
 use Rattle.network.specs.declared.refusals.Refusal.{Refusal}
@@ -20,7 +21,7 @@ line_shown (Ok (Some a)) = Ok (Some (placed a.after (line_kind a.line)))
 
 -- The reader at another place and line.
 abbrev pub moved : Reader → ℕ → ℕ → Reader
-moved r at line = record { sheet = r.sheet; place = at; line = line; loaded = r.loaded }
+moved r at line = record r { place = at; line = line }
 
 -- A table with these legs at its front, and its other records as they were.
 abbrev pub fronted : List Leg → List Leg → List Leg
@@ -43,8 +44,7 @@ abbrev pub answer_of : Load → Result Unit Refusal
 answer_of o = answered o.outcome
 
 abbrev pub replaced : Result Network Refusal → Network → Network
-replaced (Ok net) old = net
-replaced (Err e) old = old
+replaced = result_unwrap_or
 
 -- The network after a load: refused, it stays as it was.
 abbrev pub network_after : Load → Network → Network
@@ -52,7 +52,7 @@ network_after o old = replaced o.outcome old
 
 -- The reader after a load.
 abbrev pub reader_after : Load → Reader → Reader
-reader_after o r = record { sheet = r.sheet; place = o.at; line = o.line; loaded = is_ok o.outcome }
+reader_after o r = record r { place = o.at; line = o.line; loaded = is_ok o.outcome }
 
 -- What reading a plan comes to, in a network of n sites.
 abbrev pub next_of : ℕ → Reader → Next

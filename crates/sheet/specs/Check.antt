@@ -1,5 +1,6 @@
 -- What checking a whole sheet comes to. Assumes nothing.
-use Rattle.std.specs.Prelude.{ℕ, Bool, true, cond, List, [], ◌∷◌, drop, Ok, Err, Result}
+use Rattle.std.specs.Prelude.{ℕ, Bool, true, List, [], ◌∷◌, drop, Ok, Err, Result, if◌then◌else◌}
+use Rattle.std.specs.Result.{result_and}
 use Rattle.network.specs.declared.legs.Network.{Network}
 use Rattle.network.specs.declared.plans.Plan.{Plan}
 use Rattle.network.specs.declared.refusals.Refusal.{Refusal}
@@ -10,12 +11,11 @@ use Rattle.sheet.specs.Sheets.{row_kind, and_then, plan_stated, one_more, loaded
 
 -- Counting goes on after a plan, and ends at a refusal.
 abbrev pub on_plan : Result Plan Refusal → Result ℕ Refusal → Result ℕ Refusal
-on_plan (Err e) more = Err e
-on_plan (Ok p) more = more
+on_plan o more = result_and o more
 
 -- How many plans the lines that are left state, after so many plans, or the first refusal of a line.
 unfoldable pub plans_from : Bool → ℕ → ℕ → ℕ → List Row → Result ℕ Refusal
-plans_from loaded n line plans [] = cond loaded (Ok plans) (Err (OutOfPlace line))
+plans_from loaded n line plans [] = if loaded then Ok plans else Err (OutOfPlace line)
 plans_from loaded n line plans (r ∷ rs) =
     on_plan (and_then (row_kind line r) (plan_stated loaded n line)) (plans_from loaded n (one_more line) (one_more plans) rs)
 

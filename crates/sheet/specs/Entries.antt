@@ -1,5 +1,5 @@
 -- What a line of each kind states: the numbers of its fields, each in its range. Assumes nothing.
-use Rattle.std.specs.Prelude.{ℕ, Bool, cond, ◌&&◌, List, Some, None, Ok, Err, Option, Result, nat_le, nat_lt, slice_index}
+use Rattle.std.specs.Prelude.{ℕ, ◌&&◌, List, Some, None, Ok, Err, Option, Result, nat_le, slice_index, if◌then◌else◌, ok_or}
 use Rattle.network.specs.declared.legs.Leg.{Leg}
 use Rattle.network.specs.declared.plans.Plan.{Plan}
 use Rattle.network.specs.declared.refusals.Refusal.{Refusal}
@@ -7,11 +7,8 @@ use Rattle.network.specs.declared.refusals.Refusal.TheVariants.{FieldCount, Fiel
 use Rattle.sheet.specs.declared.text.Fault.{Fault}
 use Rattle.sheet.specs.declared.text.Fault.TheVariants.{Count, Form}
 use Rattle.network.specs.Legs.{leg_in_range}
+use Rattle.network.specs.Plans.{plan_in_range}
 use Rattle.sheet.specs.Numbers.{numbers_of}
-
--- The broker is at most 999, both sites are below n, and the limit is at most 1,000,000 microseconds.
-abbrev pub plan_in_range : ℕ → Plan → Bool
-plan_in_range n plan = nat_le plan.broker 999 && (nat_lt plan.start n && (nat_lt plan.goal n && nat_le plan.limit 1000000))
 
 -- The fields of `leg,tail,head,fee,grade,delay,medium` and of `plan,broker,start,goal,limit`, in order.
 abbrev pub leg_with : List ℕ → Leg
@@ -22,13 +19,13 @@ plan_with vs = record { broker = slice_index vs 0; start = slice_index vs 1; goa
 
 -- A leg, a plan and a number of sites (1 to 1,024), if their fields are in range.
 abbrev pub leg_of : ℕ → List ℕ → Option Leg
-leg_of n vs = cond (leg_in_range n (leg_with vs)) (Some (leg_with vs)) None
+leg_of n vs = if leg_in_range n (leg_with vs) then Some (leg_with vs) else None
 
 abbrev pub plan_of : ℕ → List ℕ → Option Plan
-plan_of n vs = cond (plan_in_range n (plan_with vs)) (Some (plan_with vs)) None
+plan_of n vs = if plan_in_range n (plan_with vs) then Some (plan_with vs) else None
 
 abbrev pub sites_of : List ℕ → Option ℕ
-sites_of vs = cond (nat_le 1 (slice_index vs 0) && nat_le (slice_index vs 0) 1024) (Some (slice_index vs 0)) None
+sites_of vs = if (nat_le 1 (slice_index vs 0) && nat_le (slice_index vs 0) 1024) then Some (slice_index vs 0) else None
 
 -- The refusal of a line by the fault of its fields.
 abbrev pub refused_by : ℕ → Fault → Refusal
@@ -37,8 +34,7 @@ refused_by line Form = FieldForm line
 
 -- The range is tested once the numbers are known.
 abbrev pub in_range : {X : Type 0} → ℕ → Option X → Result X Refusal
-in_range line None = Err (FieldRange line)
-in_range line (Some x) = Ok x
+in_range line o = ok_or o (FieldRange line)
 
 abbrev pub entry_by : {X : Type 0} → ℕ → (List ℕ → Option X) → Result (List ℕ) Fault → Result X Refusal
 entry_by line f (Err e) = Err (refused_by line e)

@@ -1,5 +1,5 @@
 -- What loading and reading plans make of a sheet's lines. Assumes nothing.
-use Rattle.std.specs.Prelude.{ℕ, ◌+◌, ◌-◌, ◌^◌, min, Bool, cond, ◌&&◌, List, [], ◌∷◌, ◌++◌, length, Some, None, Ok, Err, Option, Result, nat_lt}
+use Rattle.std.specs.Prelude.{ℕ, ◌+◌, ◌-◌, ◌^◌, min, Bool, ◌&&◌, List, [], ◌∷◌, ◌++◌, length, Some, None, Ok, Err, Option, Result, nat_lt, if◌then◌else◌, ok_or}
 use Rattle.network.specs.declared.legs.Leg.{Leg}
 use Rattle.network.specs.declared.plans.Plan.{Plan}
 use Rattle.network.specs.declared.legs.Network.{Network}
@@ -11,12 +11,11 @@ use Rattle.sheet.specs.Entries.{leg_entry, plan_entry, network_entry}
 
 -- What there is, or a refusal.
 abbrev pub or_refuse : {X : Type 0} → Refusal → Option X → Result X Refusal
-or_refuse e None = Err e
-or_refuse e (Some x) = Ok x
+or_refuse e o = ok_or o e
 
 -- The kind of a line, or its first refusal: it has no end byte, or its word is none of the three.
 abbrev pub row_kind : ℕ → Row → Result Kind Refusal
-row_kind line r = cond r.ended (or_refuse (UnknownWord line) (kind_by_word r.bytes)) (Err (Unended line))
+row_kind line r = if r.ended then or_refuse (UnknownWord line) (kind_by_word r.bytes) else Err (Unended line)
 
 -- Something that a line states, and the place after that line.
 pub record Placed (X : Type 0) : Type 0 where
@@ -51,13 +50,12 @@ one_more k = min (k + 1) (2 ^ 64 - 1)
 -- The first line states the number of sites; a line of another kind is out of place.
 abbrev pub sites_stated : ℕ → Kind → Result ℕ Refusal
 sites_stated line (network t) = network_entry line (fields t)
-sites_stated line (leg t) = Err (OutOfPlace line)
-sites_stated line (plan t) = Err (OutOfPlace line)
+sites_stated line k = Err (OutOfPlace line)
 
 -- A leg in range is refused where there is no room for it.
 abbrev pub with_room : ℕ → Bool → Result Leg Refusal → Result (Option Leg) Refusal
 with_room line free (Err e) = Err e
-with_room line free (Ok l) = cond free (Ok (Some l)) (Err (TableFull line))
+with_room line free (Ok l) = if free then Ok (Some l) else Err (TableFull line)
 
 -- A later line states a leg, if there is room for it, or none where the plans begin; a second network line is out of place.
 abbrev pub leg_stated : ℕ → ℕ → Bool → Kind → Result (Option Leg) Refusal
@@ -67,9 +65,8 @@ leg_stated n line free (plan t) = Ok None
 
 -- A line states a plan, after an accepted load; a line of another kind is out of place.
 abbrev pub plan_stated : Bool → ℕ → ℕ → Kind → Result Plan Refusal
-plan_stated loaded n line (network t) = Err (OutOfPlace line)
-plan_stated loaded n line (leg t) = Err (OutOfPlace line)
-plan_stated loaded n line (plan t) = cond loaded (plan_entry n line (fields t)) (Err (OutOfPlace line))
+plan_stated loaded n line (plan t) = if loaded then plan_entry n line (fields t) else Err (OutOfPlace line)
+plan_stated loaded n line k = Err (OutOfPlace line)
 
 -- What a load comes to: the network or the refusal, the legs that it accepted, and the place and line where it then stands.
 pub record Load : Type 0 where
@@ -129,5 +126,5 @@ by_plan at line after (Ok p) = next (Ok (Some p)) after (one_more line)
 
 -- At the end of the sheet there is no plan, after an accepted load. A refused reading stays at its line.
 abbrev pub next_from : Bool → ℕ → ℕ → ℕ → List Row → Next
-next_from loaded n at line [] = next (cond loaded (Ok None) (Err (OutOfPlace line))) at line
+next_from loaded n at line [] = next (if loaded then Ok None else Err (OutOfPlace line)) at line
 next_from loaded n at line (r ∷ rs) = by_plan at line (past at r) (and_then (row_kind line r) (plan_stated loaded n line))

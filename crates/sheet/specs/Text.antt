@@ -1,10 +1,10 @@
 -- How a sheet's bytes are cut into lines and fields, and the number that a field writes. Assumes nothing.
-use Rattle.std.specs.Prelude.{ℕ, ◌+◌, ◌-◌, ◌*◌, Bool, true, false, cond, ◌&&◌, ◌||◌, List, [], ◌∷◌, length, Some, None, Option, ◌==◌, nat_lt, slice_index}
+use Rattle.std.specs.Prelude.{ℕ, ◌+◌, ◌-◌, ◌*◌, Bool, true, false, ◌&&◌, ◌||◌, List, [], ◌∷◌, length, Some, None, Option, ◌==◌, nat_lt, slice_index, if◌then◌else◌}
 
 -- The bytes before the first b, or all of them.
 unfoldable pub upto : ℕ → List ℕ → List ℕ
 upto b [] = []
-upto b (c ∷ cs) = cond (c == b) [] (c ∷ upto b cs)
+upto b (c ∷ cs) = if c == b then [] else c ∷ upto b cs
 
 -- A line, and whether it has its end byte.
 pub record Row : Type 0 where
@@ -22,17 +22,17 @@ longer c (r ∷ rs) = row (c ∷ r.bytes) r.ended ∷ rs
 -- The lines of a sheet. Each ends with a byte 10; bytes after the last such byte are a line without its end byte.
 unfoldable pub lines : List ℕ → List Row
 lines [] = []
-lines (c ∷ cs) = cond (c == 10) (row [] true ∷ lines cs) (longer c (lines cs))
+lines (c ∷ cs) = if c == 10 then row [] true ∷ lines cs else longer c (lines cs)
 
 -- A line's fields: after each comma (byte 44), the bytes up to the next one. There is no quoting.
 unfoldable pub fields : List ℕ → List (List ℕ)
 fields [] = []
-fields (c ∷ cs) = cond (c == 44) (upto 44 cs ∷ fields cs) (fields cs)
+fields (c ∷ cs) = if c == 44 then upto 44 cs ∷ fields cs else fields cs
 
 -- The number that digits write, after the number n; none where a byte is no digit (48 to 57).
 abbrev pub read_on : ℕ → List ℕ → Option ℕ
 read_on n [] = Some n
-read_on n (c ∷ cs) = cond (nat_lt c 48 || nat_lt 57 c) None (read_on (10 * n + (c - 48)) cs)
+read_on n (c ∷ cs) = if (nat_lt c 48 || nat_lt 57 c) then None else read_on (10 * n + (c - 48)) cs
 
 -- A number has 1 to 10 digits, with no leading 0 unless it is `0`.
 abbrev pub misshapen : List ℕ → Bool
@@ -40,7 +40,7 @@ misshapen ds = length ds == 0 || (nat_lt 10 (length ds) || (nat_lt 1 (length ds)
 
 -- The number that a field writes, if it is one.
 unfoldable pub value : List ℕ → Option ℕ
-value ds = cond (misshapen ds) None (read_on 0 ds)
+value ds = if misshapen ds then None else read_on 0 ds
 
 abbrev pub both : Option ℕ → Option (List ℕ) → Option (List ℕ)
 both None o = None

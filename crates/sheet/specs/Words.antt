@@ -1,5 +1,5 @@
 -- The kind of a line, by its word. Assumes nothing.
-use Rattle.std.specs.Prelude.{ℕ, Bool, true, false, cond, ◌&&◌, ◌||◌, List, [], ◌∷◌, length, drop, Some, None, codes, Option, ◌==◌, slice_index}
+use Rattle.std.specs.Prelude.{ℕ, Bool, ◌||◌, List, length, drop, Some, None, codes, Option, ◌==◌, slice_index, if◌then◌else◌, bytes_eq, option_map}
 use Rattle.sheet.specs.declared.words.Line.{Line}
 use Rattle.sheet.specs.declared.words.Line.TheVariants.{Network, Leg, Plan}
 use Rattle.sheet.specs.Text.{upto}
@@ -16,15 +16,11 @@ line_kind (Leg rest) = leg rest.now
 line_kind (Plan rest) = plan rest.now
 
 abbrev pub kind_shown : Option Line → Option Kind
-kind_shown None = None
-kind_shown (Some l) = Some (line_kind l)
+kind_shown = option_map line_kind
 
 -- Two texts are the same.
 abbrev pub same : List ℕ → List ℕ → Bool
-same [] [] = true
-same [] (y ∷ ys) = false
-same (x ∷ xs) [] = false
-same (x ∷ xs) (y ∷ ys) = x == y && same xs ys
+same = bytes_eq
 
 -- A text that is empty or begins with a comma.
 abbrev pub is_rest : List ℕ → Bool
@@ -32,7 +28,7 @@ is_rest bs = length bs == 0 || slice_index bs 0 == 44
 
 -- A line's word is what stands before its first comma. The text after the word w, if that is the line's word.
 unfoldable pub after : List ℕ → List ℕ → Option (List ℕ)
-after w line = cond (same (upto 44 line) w) (Some (drop (length w) line)) None
+after w line = if same (upto 44 line) w then Some (drop (length w) line) else None
 
 abbrev pub or_else : (List ℕ → Kind) → Option (List ℕ) → Option Kind → Option Kind
 or_else k None o = o

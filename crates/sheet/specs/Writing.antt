@@ -1,5 +1,5 @@
 -- The text of a leg, and what write makes of a buffer. Assumes nothing.
-use Rattle.std.specs.Prelude.{ℕ, ◌+◌, cond, List, [], ◌∷◌, ◌++◌, length, take, drop, Ok, Err, codes, decimal, Result, nat_le}
+use Rattle.std.specs.Prelude.{ℕ, ◌+◌, List, [], ◌∷◌, ◌++◌, length, take, drop, Ok, Err, codes, decimal, Result, nat_le, if◌then◌else◌}
 use Rattle.network.specs.declared.legs.Leg.{Leg}
 use Rattle.network.specs.declared.refusals.Refusal.{Refusal}
 use Rattle.network.specs.declared.refusals.Refusal.TheVariants.{WrittenLegRange, BufferShort}
@@ -24,7 +24,10 @@ laid text at buffer = take at buffer ++ (text ++ drop (at + length text) buffer)
 
 -- What writing a leg answers, with a buffer of this room. The leg's ranges come before the room.
 abbrev pub written : ℕ → Leg → Result ℕ Refusal
-written room l = cond (leg_in_range 1024 l) (cond (nat_le (length (leg_text l)) room) (Ok (length (leg_text l))) (Err BufferShort)) (Err WrittenLegRange)
+written room l =
+    if leg_in_range 1024 l
+    then (if nat_le (length (leg_text l)) room then Ok (length (leg_text l)) else Err BufferShort)
+    else Err WrittenLegRange
 
 -- The buffer after that answer: refused, it stays as it was.
 abbrev pub filled : Result ℕ Refusal → Leg → List ℕ → List ℕ

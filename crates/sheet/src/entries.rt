@@ -1,10 +1,12 @@
 // What a line of each kind states, by its fields: their number is tested first, then the form of each, then the range of each.
-ghost use Rattle.std.specs.Prelude.{◌≡◌};
+ghost use Rattle.std.specs.Prelude.{◌≡◌, Some};
 ghost use Rattle.sheet.specs.Text.{fields};
-ghost use Rattle.sheet.specs.Entries.{leg_of, plan_of, sites_of, refused_by, plan_in_range, leg_entry, plan_entry, network_entry};
+ghost use Rattle.sheet.specs.Entries.{leg_of, plan_of, sites_of, refused_by, entry_by, leg_entry, plan_entry, network_entry};
+ghost use Rattle.sheet.specs.Numbers.{numbers_of};
 
 use crate::text::*;
 use network::legs::Leg;
+use network::limits::MOST_SITES;
 use network::plans::Plan;
 use network::refusals::Refusal;
 
@@ -25,7 +27,7 @@ fn ranged_sites(values: [u64; 1]) -> Option<u16>
 {
     let [sites] = values;
     let sites = u16::try_from(sites).ok()?;
-    (1..=1024).contains(&sites).then_some(sites)
+    (1..=MOST_SITES).contains(&sites).then_some(sites)
 }
 
 fn ranged_leg(values: [u64; 6], sites: u16) -> Option<Leg>
@@ -43,13 +45,6 @@ fn ranged_leg(values: [u64; 6], sites: u16) -> Option<Leg>
     leg.is_in_range(sites).then_some(leg)
 }
 
-// Each field is in its range, the two sites being below `sites`.
-fn is_in_range(plan: &Plan, sites: u16) -> bool
-    ensures { result ≡ plan_in_range sites plan.now }
-{
-    plan.broker <= 999 && plan.start < sites && plan.goal < sites && plan.limit <= 1_000_000
-}
-
 fn ranged_plan(values: [u64; 4], sites: u16) -> Option<Plan>
     ensures { result ≡ plan_of sites values }
 {
@@ -60,29 +55,42 @@ fn ranged_plan(values: [u64; 4], sites: u16) -> Option<Plan>
         goal: u16::try_from(goal).ok()?,
         limit: u32::try_from(limit).ok()?,
     };
-    is_in_range(&plan, sites).then_some(plan)
+    plan.is_in_range(sites).then_some(plan)
 }
 
-// The number of sites that a network line states.
-pub(crate) fn network_entry(rest: &[u8], line: u64) -> Result<u16, Refusal>
-    ensures { result ≡ network_entry line (fields rest.now) }
-{
-    let values = numbers(rest).map_err(|fault| fault.at(line))?;
-    ranged_sites(values).ok_or(Refusal::FieldRange(line))
+// What follows a line's word, with the line's number.
+#[derive(Clone, Copy)]
+pub(crate) struct Entry<'a> {
+    pub rest: &'a [u8],
+    pub line: u64,
 }
 
-// The leg that a leg line states.
-pub(crate) fn leg_entry(rest: &[u8], sites: u16, line: u64) -> Result<Leg, Refusal>
-    ensures { result ≡ leg_entry sites line (fields rest.now) }
-{
-    let values = numbers(rest).map_err(|fault| fault.at(line))?;
-    ranged_leg(values, sites).ok_or(Refusal::FieldRange(line))
-}
+impl Entry<'_> {
+    // Its `N` numbers.
+    fn numbers<const N: usize>(self) -> Result<[u64; N], Refusal>
+        ensures { result ≡ entry_by self.entry.line Some (numbers_of N (fields self.entry.rest.now)) }
+    {
+        numbers(self.rest).map_err(|fault| fault.at(self.line))
+    }
 
-// The plan that a plan line states.
-pub(crate) fn plan_entry(rest: &[u8], sites: u16, line: u64) -> Result<Plan, Refusal>
-    ensures { result ≡ plan_entry sites line (fields rest.now) }
-{
-    let values = numbers(rest).map_err(|fault| fault.at(line))?;
-    ranged_plan(values, sites).ok_or(Refusal::FieldRange(line))
+    // The number of sites that a network line states.
+    pub(crate) fn sites(self) -> Result<u16, Refusal>
+        ensures { result ≡ network_entry self.entry.line (fields self.entry.rest.now) }
+    {
+        ranged_sites(self.numbers()?).ok_or(Refusal::FieldRange(self.line))
+    }
+
+    // The leg that a leg line states.
+    pub(crate) fn leg(self, sites: u16) -> Result<Leg, Refusal>
+        ensures { result ≡ leg_entry sites self.entry.line (fields self.entry.rest.now) }
+    {
+        ranged_leg(self.numbers()?, sites).ok_or(Refusal::FieldRange(self.line))
+    }
+
+    // The plan that a plan line states.
+    pub(crate) fn plan(self, sites: u16) -> Result<Plan, Refusal>
+        ensures { result ≡ plan_entry sites self.entry.line (fields self.entry.rest.now) }
+    {
+        ranged_plan(self.numbers()?, sites).ok_or(Refusal::FieldRange(self.line))
+    }
 }

@@ -1,4 +1,4 @@
-// Text cut at a byte, its fields, and the numbers in them.
+// The place of a byte in a text, the fields of a line, and the numbers in them.
 ghost use Rattle.std.specs.Prelude.{◌≡◌, ◌==◌, length, position, Ok};
 ghost use Rattle.std.specs.Result.{result_and};
 ghost use Rattle.sheet.specs.Numbers.{numbers_of};

@@ -4,6 +4,7 @@ ghost use Rattle.sheet.specs.Theorems.{WrittenLegReadsBack, WrittenLegsReadBack}
 ghost use Rattle.sheet.specs.Writing.{filled, laid, leg_numbers, listed, written};
 
 use network::legs::Leg;
+use network::limits::MOST_SITES;
 use network::refusals::Refusal;
 
 // How many digits a number has.
@@ -37,18 +38,16 @@ fn listed_len(numbers: &[u64; 6]) -> usize
     numbers.iter().map(|n| 1 + digits(*n)).sum()
 }
 
-// Puts numbers at the buffer's start, each after a comma, and answers the place after them.
-fn put_listed(buffer: &mut [u8], numbers: &[u64; 6]) -> usize
+// Puts numbers at the buffer's start, each after a comma.
+fn put_listed(buffer: &mut [u8], numbers: &[u64; 6])
     requires { length (listed numbers.now) ≤ length buffer.old }
-    ensures value { result ≡ length (listed numbers.now) }
-    ensures after { buffer.new ≡ laid (listed numbers.now) 0 buffer.old }
+    ensures { buffer.new ≡ laid (listed numbers.now) 0 buffer.old }
 {
     let mut place = 0;
     for n in numbers {
         buffer[place] = b',';
         place += 1 + put_number(&mut buffer[place + 1..], *n);
     }
-    place
 }
 
 // The leg's numbers, in the order of its line.
@@ -73,7 +72,7 @@ pub fn write_leg(leg: &Leg, buffer: &mut [u8]) -> Result<usize, Refusal>
     ensures after { buffer.new ≡ filled result leg.now buffer.old }
     ensures reads_back { (n : ℕ) → result ≡ Ok n → WrittenLegReadsBack (take n buffer.new) leg.now }
 {
-    if !leg.is_in_range(1024) {
+    if !leg.is_in_range(MOST_SITES) {
         return Err(Refusal::WrittenLegRange);
     }
     let numbers = numbers(leg);
@@ -88,6 +87,7 @@ pub fn write_leg(leg: &Leg, buffer: &mut [u8]) -> Result<usize, Refusal>
 }
 
 // Legs in range, written one after another below a line `network,1024`, load as themselves.
+#[tactic(auto, using(crate::proofs::Returning::reads_back))]
 pub fn written_legs_read_back() -> u8
     ensures { WrittenLegsReadBack }
 {

@@ -13,6 +13,7 @@ ghost use Rattle.sheetcheck.specs.Lines.{line_at_fault, plan_line, top_lines, Te
 
 use network::estimates::*;
 use network::legs::*;
+use network::limits::MOST_LEGS;
 use network::plans::Plan;
 use network::refusals::Refusal;
 use network::tariffs::TotalFee;
@@ -22,9 +23,8 @@ use sheet::reader::Reader;
 use std::alloc::{AllocError, Global};
 use std::collections::BTreeMap;
 use std::collections::btree_map::Entry;
-use std::fmt::Write;
-use std::io::Read;
-use std::{fmt, io};
+use std::fmt::{self, Write};
+use std::io::{self, Read};
 
 // The line that a refusal carries; 0 where it carries none.
 fn line_at_fault(refusal: &Refusal) -> u64
@@ -77,10 +77,12 @@ impl fmt::Display for PlanLine {
     ghost output = { λ l. Some (plan_line l.plan l.least) };
 
     fn fmt<W: fmt::Write>(&self, f: &mut fmt::Formatter<W>) -> fmt::Result {
-        let broker = self.plan.broker;
-        let start = self.plan.start;
-        let goal = self.plan.goal;
-        let limit = self.plan.limit;
+        let Plan {
+            broker,
+            start,
+            goal,
+            limit,
+        } = self.plan;
         match self.least {
             Some(Bound { cost, delay }) => {
                 writeln!(f, "bounds,{broker},{start},{goal},{limit},{cost},{delay}")
@@ -107,7 +109,7 @@ impl Tables {
     ) -> Result<Option<Tables>, AllocError>
         ensures { IfOk result (λ o. IfSome o (λ t. (u : ℕ) → u < network.now.sites → Between (graph total_fee (legs_of network.now table.now)) u goal (tables_at t.costs.items t.delays.items u))) }
     {
-        let sites = network.sites as usize;
+        let sites = usize::from(network.sites);
         let mut costs = vec![in heap; u64::MAX; sites]?;
         let mut delays = vec![in heap; u32::MAX; sites]?;
         let reached = reach(network, table, &TotalFee, goal, &mut costs, &mut delays);
@@ -129,6 +131,7 @@ impl Estimate for Tables {
 }
 
 // The lines of all plans of a sound sheet. The tables towards a goal are made once.
+#[tactic(auto, using(sheet::proofs::Moving::less_is_left))]
 fn plan_lines(heap: Global, sheet: &[u8], table: &mut [Leg]) -> Result<String, AllocError> {
     let mut text = String::new(heap);
     let mut network = Network::default();
@@ -167,7 +170,7 @@ fn report(heap: Global, sheet: &[u8]) -> Result<Findings, AllocError>
     ensures answer { IfOk result (λ t. t.answer ≡ checked 4096 sheet.now) }
     ensures text { IfOk result (λ t. Tells t.answer (string_bytes t.text)) }
 {
-    let mut table = vec![in heap; Leg::default(); 4096]?;
+    let mut table = vec![in heap; Leg::default(); usize::from(MOST_LEGS)]?;
     let answer = check_sheet(sheet, &mut table);
     let top = TopLines { answer: &answer };
     let mut text = top.to_string(heap)?;
@@ -177,10 +180,10 @@ fn report(heap: Global, sheet: &[u8]) -> Result<Findings, AllocError>
     Ok(Findings { text, answer })
 }
 
-fn run(rt: &HostRuntime) -> io::Result<()> {
+fn run<R: Read + Drop>(rt: &(impl Print + Eprint + AllocGlobal), mut input: R) -> io::Result<()> {
     let heap = rt.alloc();
     let mut sheet = Vec::new(heap);
-    rt.stdin().read_to_end(&mut sheet)?;
+    input.read_to_end(&mut sheet)?;
     let report = report(heap, &sheet)?;
     rt.print(report.text.as_str())?;
     if let Err(refusal) = report.answer {
@@ -192,5 +195,5 @@ fn run(rt: &HostRuntime) -> io::Result<()> {
 }
 
 fn main(rt: HostRuntime) -> io::Result<()> {
-    run(&rt)
+    run(&rt, rt.stdin())
 }

@@ -11,7 +11,7 @@ use Rattle.worksheet.specs.Problem.{Problem, nothing, extend, finish}
 use Rattle.worksheet.specs.Steps.{State, no_label, label_at, child, try, expand}
 use Rattle.worksheet.specs.Traces.{traced, trace}
 use Rattle.worksheet.specs.Series.{Linked}
-use Rattle.worksheet.proofs.Ways.{Tried, passed, full, wrote, tried}
+use Rattle.worksheet.proofs.Ways.{Tried, wrote, tried}
 
 -- The list has the graph's legs from number j on.
 abbrev pub LegsFrom : Graph → ℕ → List Leg → Type 0
@@ -33,19 +33,31 @@ all_legs g = legs_after g [] g.legs refl
 pub tried_at : (p : Problem) (i : ℕ) (l : Label) (j : ℕ) (leg : Leg) (s : State) → leg ≡ leg_at p.graph j → Tried p i l j (leg_at p.graph j) s (try p i l j leg s)
 tried_at p i l j leg s e = subst (λ (x : Leg). Tried p i l j x s (try p i l j leg s)) e (tried p i l j leg s)
 
--- What label l, of number i, has by its origin: it is the empty walk at the start, or its parent's walk with one leg more.
+-- Label l, of number i, is the empty walk at the start.
+pub record First (p : Problem) (i : ℕ) (l : Label) : Type 0 where
+  pub number : i ≡ 0
+  pub site : l.site ≡ p.start
+  pub mark : l.mark ≡ nothing
+
+-- It is its parent's walk with one leg more.
+pub record OneMore (p : Problem) (ls : List Label) (i : ℕ) (l : Label) (o : Origin) : Type 0 where
+  pub below : o.parent < i
+  pub is_leg : o.leg < length p.graph.legs
+  pub leaves : (leg_at p.graph o.leg).tail ≡ (label_at ls o.parent).site
+  pub site : l.site ≡ (leg_at p.graph o.leg).head
+  pub mark : l.mark ≡ extend p.graph (label_at ls o.parent).mark (leg_at p.graph o.leg)
+
+-- What it has by its origin.
 abbrev pub Told : Problem → List Label → ℕ → Label → Option Origin → Type 0
-Told p ls i l None = (i ≡ 0) × (l.site ≡ p.start) × (l.mark ≡ nothing)
-Told p ls i l (Some o) =
-    (o.parent < i) × (o.leg < length p.graph.legs) × ((leg_at p.graph o.leg).tail ≡ (label_at ls o.parent).site)
-    × (l.site ≡ (leg_at p.graph o.leg).head) × (l.mark ≡ extend p.graph (label_at ls o.parent).mark (leg_at p.graph o.leg))
+Told p ls i l None = First p i l
+Told p ls i l (Some o) = OneMore p ls i l o
 
 abbrev pub Chained : Problem → List Label → ℕ → Type 0
 Chained p ls n = (i : ℕ) → i < n → Told p ls i (label_at ls i) (label_at ls i).from
 
 pub told_linked : (p : Problem) (ls : List Label) (i : ℕ) (l : Label) (o : Option Origin) → Told p ls i l o → Linked (length p.graph.legs) i o
-told_linked p ls i l None t = t.0
-told_linked p ls i l (Some o) t = (t.0, t.1)
+told_linked p ls i l None t = t.number
+told_linked p ls i l (Some o) t = (t.below, t.is_leg)
 
 -- A label that is written leaves those before it as they are.
 pub label_kept : (ls : List Label) (n : ℕ) (x : Label) (i : ℕ) → i < n → label_at (set ls n x) i ≡ label_at ls i
@@ -54,8 +66,8 @@ label_kept ls n x i h = get_or-set_other ls n i x no_label (omega arith)
 told_kept : (p : Problem) (ls : List Label) (n : ℕ) (x : Label) (i : ℕ) → i ≤ n → (l : Label) (o : Option Origin) → Told p ls i l o → Told p (set ls n x) i l o
 told_kept p ls n x i h l None t = t
 told_kept p ls n x i h l (Some o) t =
-    let same : label_at (set ls n x) o.parent ≡ label_at ls o.parent = label_kept ls n x o.parent (omega (arith, t.0)) in
-    (t.0, t.1, rw same t.2, t.3, rw same t.4)
+    let same : label_at (set ls n x) o.parent ≡ label_at ls o.parent = label_kept ls n x o.parent (omega (arith, t.below)) in
+    record { below = t.below; is_leg = t.is_leg; leaves = rw same t.leaves; site = t.site; mark = rw same t.mark }
 
 pub chained_more : (p : Problem) (ls : List Label) (n : ℕ) (x : Label) → n < length ls → Chained p ls n → Told p ls n x x.from → Chained p (set ls n x) (suc n)
 chained_more p ls n x room c t i h = ⊎_elim old new (cases_lt i n)
@@ -75,17 +87,17 @@ pub record Leads (p : Problem) (v : ℕ) (m : Mark) (js ks : List ℕ) : Type 0 
   pub comes_to : finish p.graph nothing ks ≡ finish p.graph m js
 
 module _ (p : Problem) (ls : List Label) (n : ℕ) (c : Chained p ls n) (v : ℕ) where
-  from_start : (i : ℕ) (l : Label) (js : List ℕ) → (i ≡ 0) × (l.site ≡ p.start) × (l.mark ≡ nothing) → Walk p.graph l.site js v → Leads p v l.mark js js
-  from_start i l js t q = record { walk = subst (λ u. Walk p.graph u js v) t.1 q; comes_to = ap (λ (x : Mark). finish p.graph x js) (sym t.2) }
+  from_start : (i : ℕ) (l : Label) (js : List ℕ) → First p i l → Walk p.graph l.site js v → Leads p v l.mark js js
+  from_start i l js t q = record { walk = subst (λ u. Walk p.graph u js v) t.site q; comes_to = ap (λ (x : Mark). finish p.graph x js) (sym t.mark) }
 
   traced_leads : (fuel i : ℕ) (o : Option Origin) → i ≤ fuel → i < n → Told p ls i (label_at ls i) o → (js : List ℕ) → Walk p.graph (label_at ls i).site js v → Leads p v (label_at ls i).mark js (traced ls fuel o js)
   traced_leads zero i None h b t js q = from_start i (label_at ls i) js t q
-  traced_leads zero i (Some o) h b t js q = absurd (omega (arith, t.0))
+  traced_leads zero i (Some o) h b t js q = absurd (omega (arith, t.below))
   traced_leads (suc fuel) i None h b t js q = from_start i (label_at ls i) js t q
   traced_leads (suc fuel) i (Some o) h b t js q =
       let k = o.parent in
-      let r = traced_leads fuel k (label_at ls k).from (omega (arith, t.0)) (omega (arith, t.0)) (c k (omega (arith, t.0))) (o.leg ∷ js) (t.1, t.2, subst (λ u. Walk p.graph u js v) t.3 q) in
-      record { walk = r.walk; comes_to = r.comes_to ∙ ap (λ (x : Mark). finish p.graph x js) (sym t.4) }
+      let r = traced_leads fuel k (label_at ls k).from (omega (arith, t.below)) (omega (arith, t.below)) (c k (omega (arith, t.below))) (o.leg ∷ js) (t.is_leg, t.leaves, subst (λ u. Walk p.graph u js v) t.site q) in
+      record { walk = r.walk; comes_to = r.comes_to ∙ ap (λ (x : Mark). finish p.graph x js) (sym t.mark) }
 
   pub trace_leads : (i : ℕ) → i < n → (label_at ls i).site ≡ v → Leads p v (label_at ls i).mark [] (trace ls i)
   trace_leads i b e = traced_leads i i (label_at ls i).from (omega arith) b (c i b) [] e
@@ -98,8 +110,6 @@ pub record Expanding (p : Problem) (i : ℕ) (l : Label) (ls : List Label) (n : 
   pub chained : Chained p ls n
 
 try_chained : (p : Problem) (i : ℕ) (l : Label) (j : ℕ) (s t : State) → j < length p.graph.legs → Tried p i l j (leg_at p.graph j) s t → Expanding p i l s.labels s.count → Expanding p i l t.labels t.count
-try_chained p i l j s t h (passed q) k = k
-try_chained p i l j s t h (full q why d f r) k = k
 try_chained p i l j s t h (wrote q d x) k =
     let leg = leg_at p.graph j in
     record {
@@ -107,8 +117,15 @@ try_chained p i l j s t h (wrote q d x) k =
       fits = omega (arith, length-set s.labels s.count (child p i l j leg));
       is = label_kept s.labels s.count (child p i l j leg) i k.below ∙ k.is;
       chained = chained_more p s.labels s.count (child p i l j leg) x k.chained
-          (k.below, h, d.here ∙ ap (λ (z : Label). z.site) (sym k.is), refl, ap (λ (z : Label). extend p.graph z.mark leg) (sym k.is));
+          (record {
+            below = k.below;
+            is_leg = h;
+            leaves = d.here ∙ ap (λ (z : Label). z.site) (sym k.is);
+            site = refl;
+            mark = ap (λ (z : Label). extend p.graph z.mark leg) (sym k.is);
+          });
     }
+try_chained p i l j s t h way k = k
 
 pub expand_chained : (p : Problem) (i : ℕ) (l : Label) (j : ℕ) (legs : List Leg) (s : State) → LegsFrom p.graph j legs → Expanding p i l s.labels s.count → Expanding p i l (expand p i l j legs s).labels (expand p i l j legs s).count
 expand_chained p i l j [] s t k = k

@@ -43,13 +43,20 @@ abbrev pub Closed : Problem → List Label → ℕ → List Entry → List Settl
 Closed p ls n b done x =
     (x.site ≡ p.goal → ⊥) → (j : ℕ) → j < length p.graph.legs → (leg_at p.graph j).tail ≡ x.site → Handled p ls n b done (leg_at p.graph j).head (extend p.graph x.mark (leg_at p.graph j))
 
+-- A settled label at site v has at most the delay d.
+pub record DueTo (done : List Settled) (v d : ℕ) : Type 0 where
+  pub by : Settled
+  pub at : Has done by
+  pub site : by.site ≡ v
+  pub delay : by.mark.delay ≤ d
+
 -- The entries are sound, rise, and come after all settled labels; each least-delay record is due to a settled label.
 pub record Fair (p : Problem) (ls : List Label) (n : ℕ) (least : List ℕ) (b : List Entry) (done : List Settled) : Type 0 where
   pub sound : (e : Entry) → Has b e → Sound p ls n e
   pub rising : Rising b
   pub ranked : (x : Settled) → Has done x → Ranked p x.site x.mark.cost x.estimate
   pub order : (x : Settled) → Has done x → (e : Entry) → Has b e → Sooner x.estimate x.mark.cost e.estimate e.cost
-  pub due : (v d : ℕ) → v < p.sites → get_or least v 0 ≤ d → d ≤ p.limit → (x : Settled) × Has done x × (x.site ≡ v) × (x.mark.delay ≤ d)
+  pub due : (v d : ℕ) → v < p.sites → get_or least v 0 ≤ d → d ≤ p.limit → DueTo done v d
 
 -- The mark f of a route: a label settled at the goal covers it, or a walk on from an entry does.
 pub data Reached (p : Problem) (ls : List Label) (b : List Entry) (done : List Settled) (f : Mark) : Type 0 where

@@ -1,6 +1,7 @@
 -- What a lawful estimate tells: how entries are ranked along a walk, and from which sites no route goes on. Assumes nothing.
-use Rattle.std.proofs.Common.{◌≡◌, ℕ, ◌+◌, ◌^◌, ◌<◌, ◌≤◌, true, List, [], ◌∷◌, length, Some, None, Option, sym, refl, ap, ◌∙◌, subst, ap₂, ⊎_elim, arith}
-use Rattle.std.proofs.lemmas.Bool.{and_parts, leb-true, cases_lt}
+use Rattle.std.proofs.Common.{◌≡◌, ℕ, ◌+◌, ◌^◌, ◌<◌, ◌≤◌, true, List, [], ◌∷◌, length, Some, None, Option, refl, ap, ◌∙◌, subst, ⊎_elim, arith}
+use Rattle.std.proofs.lemmas.Bool.{cases_lt}
+use Rattle.std.proofs.lemmas.Bool.Decides.{nat_tests}
 use Rattle.network.specs.declared.estimates.Bound.{Bound}
 use Rattle.network.specs.declared.legs.Leg.{Leg}
 use Rattle.network.specs.Estimates.{nothing_left, ends_keep_rules}
@@ -21,15 +22,12 @@ some_and_none o x e f = cc
 
 -- The rules for a leg, one by one: a head is cut off with its tail, and the two bounds.
 cut_off_rule : (g : Graph) (leg : Leg) (o q : Option Bound) → ends_keep_rules g leg o q ≡ true → o ≡ None → q ≡ None
-cut_off_rule g leg None None e f = refl
-cut_off_rule g leg None (Some h) e f = cc
-cut_off_rule g leg (Some t) q e f = absurd (some_and_none (Some t) t refl f)
+cut_off_rule g leg o q e f = grind arith
 
 bounds_rule : (g : Graph) (leg : Leg) (o q : Option Bound) (t h : Bound) → ends_keep_rules g leg o q ≡ true → o ≡ Some t → q ≡ Some h
     → (t.cost ≤ g.join (g.price leg) h.cost) × (t.delay ≤ g.delay leg + h.delay)
 bounds_rule g leg o q t h e f k =
-    let both = and_parts _ _ (sym (ap₂ (ends_keep_rules g leg) f k) ∙ e) in
-    (leb-true _ _ both.0, leb-true _ _ both.1)
+    (grind (arith, nat_tests), grind (arith, nat_tests))
 
 -- The order of entries, as far as it decides what is expanded: by estimate, then by cost.
 abbrev pub Sooner : ℕ → ℕ → ℕ → ℕ → Type 0

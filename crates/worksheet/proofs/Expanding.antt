@@ -31,29 +31,33 @@ abbrev pub FairIn : Problem → State → List Settled → Type 0
 FairIn p s done = Fair p s.labels s.count s.least s.bag done
 
 -- The entries of s are in t, with the same labels.
+pub record Kept (s t : State) (e : Entry) : Type 0 where
+  pub at : Has t.bag e
+  pub below : e.label < t.count
+  pub label : label_at t.labels e.label ≡ label_at s.labels e.label
+
 abbrev pub Keeps : State → State → Type 0
-Keeps s t = (e : Entry) → Has s.bag e → e.label < s.count → Has t.bag e × (e.label < t.count) × (label_at t.labels e.label ≡ label_at s.labels e.label)
+Keeps s t = (e : Entry) → Has s.bag e → e.label < s.count → Kept s t e
 
 pub handled_kept : (p : Problem) (s t : State) (done : List Settled) → Keeps s t → (v : ℕ) (m : Mark) → HandledIn p s done v m → HandledIn p t done v m
 handled_kept p s t done k v m (hopeless q) = hopeless q
 handled_kept p s t done k v m (covered x at site c) = covered x at site c
-handled_kept p s t done k v m (waiting e at below site c) = let h = k e at below in waiting e h.0 h.1 (ap (λ (l : Label). l.site) h.2 ∙ site) c
+handled_kept p s t done k v m (waiting e at below site c) = let h = k e at below in waiting e h.at h.below (ap (λ (l : Label). l.site) h.label ∙ site) c
 
 write_keeps : (p : Problem) (l : Label) (h : Bound) (s : State) → Keeps s (write p l h s)
-write_keeps p l h s e at below = (has_insert_old (entry_of p s.count l h) s.bag e at, omega arith, label_kept s.labels s.count l e.label below)
+write_keeps p l h s e at below = record { at = has_insert_old (entry_of p s.count l h) s.bag e at; below = omega arith; label = label_kept s.labels s.count l e.label below }
 
 try_keeps : (p : Problem) (i : ℕ) (l : Label) (j : ℕ) (leg : Leg) (s t : State) → Tried p i l j leg s t → Keeps s t
-try_keeps p i l j leg s t (passed q) e at below = (at, below, refl)
-try_keeps p i l j leg s t (full h why d f r) e at below = (at, below, refl)
 try_keeps p i l j leg s t (wrote h d x) e at below = write_keeps p (child p i l j leg) h s e at below
+try_keeps p i l j leg s t way e at below = record { at = at; below = below; label = refl }
 
 pub expand_keeps : (p : Problem) (i : ℕ) (l : Label) (j : ℕ) (legs : List Leg) (s : State) → Keeps s (expand p i l j legs s)
-expand_keeps p i l j [] s e at below = (at, below, refl)
+expand_keeps p i l j [] s e at below = record { at = at; below = below; label = refl }
 expand_keeps p i l j (leg ∷ more) s e at below =
     let t = try p i l j leg s in
     let h = try_keeps p i l j leg s t (tried p i l j leg s) e at below in
-    let k = expand_keeps p i l (suc j) more t e h.0 h.1 in
-    (k.0, k.1, k.2 ∙ h.2)
+    let k = expand_keeps p i l (suc j) more t e h.at h.below in
+    record { at = k.at; below = k.below; label = k.label ∙ h.label }
 
 -- No settled label comes after the cost c with the estimated cost e.
 abbrev pub AllSooner : ℕ → ℕ → List Settled → Type 0
@@ -109,18 +113,17 @@ module _ {t : Terms} {p : Problem} {w : State} (acc : Accepted t p w) (i : ℕ) 
         sooner_through x.estimate x.mark.cost e l.mark.cost (p.graph.join mark.cost h.cost) mark.cost (sooner x at) after
 
     try_fair : (s u : State) → Tried p i l j leg s u → FairIn p s done → FairIn p u done
-    try_fair s u (passed q) f = f
-    try_fair s u (full h why d x r) f = f
     try_fair s u (wrote h d x) f = write_fair p (child p i l j leg) h s done x (child_ranked h d.known) (omega (arith, d.within)) place (child_is_later d.here h d.known) f
+    try_fair s u way f = f
 
     -- A dominated child is covered: what its head's record is due to was taken sooner, so that it costs no more.
     dominated_covered : (s : State) → leg.tail ≡ l.site → FairIn p s done → (h : Bound) → p.at leg.head ≡ Some h → mark.delay + h.delay ≤ p.limit → get_or s.least leg.head 0 ≤ mark.delay → HandledIn p s done leg.head mark
     dominated_covered s q f h k fits r =
         let due = f.due leg.head mark.delay place r (omega arith) in
-        let x = due.0 in
-        let first = subst (λ u. Ranked p u x.mark.cost x.estimate) due.2 (f.ranked x due.1) in
-        covered x due.1 due.2
-        (cheaper acc leg.head x.mark.cost x.estimate mark.cost (p.graph.join mark.cost h.cost) first (child_ranked h k) (child_is_later q h k x due.1), due.3)
+        let x = due.by in
+        let first = subst (λ u. Ranked p u x.mark.cost x.estimate) due.site (f.ranked x due.at) in
+        covered x due.at due.site
+        (cheaper acc leg.head x.mark.cost x.estimate mark.cost (p.graph.join mark.cost h.cost) first (child_ranked h k) (child_is_later q h k x due.at), due.delay)
 
     try_handles : (s u : State) → Tried p i l j leg s u → u.phase ≡ Open → FairIn p s done → ChildHandled p l done u leg
     try_handles s u (passed (shut q)) o f here = absurd (q o)

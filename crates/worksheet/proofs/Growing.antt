@@ -8,6 +8,7 @@ use Rattle.network.specs.declared.refusals.Stop.{Stop}
 use Rattle.network.specs.declared.refusals.Stop.TheVariants.{Outside}
 use Rattle.queue.proofs.Bags.{length_insert}
 use Rattle.worksheet.specs.declared.records.Label.{Label}
+use Rattle.worksheet.specs.declared.records.Phase.{Phase}
 use Rattle.worksheet.specs.declared.records.Phase.TheVariants.{Open, Stopped}
 use Rattle.worksheet.specs.Problem.{Problem}
 use Rattle.worksheet.specs.Steps.{State, entry_of, write, child, try, expand}
@@ -61,9 +62,14 @@ write_grew p l h s = record { count = omega arith; bag = omega (arith, length_in
 one_leaves : (leg : Leg) (u : ℕ) → leg.tail ≡ u → leaves u leg ≡ 1
 one_leaves leg u e = cond-true (eqb leg.tail u) 1 0 (eq-eqb _ _ e)
 
--- The search goes on, or is stopped for want of room.
+-- The search is stopped for want of room, or goes on.
+pub record OutOfRoom (q : Phase) : Type 0 where
+  pub why : Stop
+  pub is : q ≡ Stopped why
+  pub inside : why ≡ Outside → ⊥
+
 abbrev pub GoesOnOrFull : State → Type 0
-GoesOnOrFull s = (s.phase ≡ Open) ⊎ ((why : Stop) × (s.phase ≡ Stopped why) × (why ≡ Outside → ⊥))
+GoesOnOrFull s = (s.phase ≡ Open) ⊎ OutOfRoom s.phase
 
 module _ (p : Problem) (i : ℕ) (l : Label) (j : ℕ) (leg : Leg) (s : State) where
   try_grew : (t : State) → Tried p i l j leg s t → Grew (leaves l.site leg) s t
@@ -72,20 +78,17 @@ module _ (p : Problem) (i : ℕ) (l : Label) (j : ℕ) (leg : Leg) (s : State) w
   try_grew t (wrote h d x) = subst (λ n. Grew n s (write p (child p i l j leg) h s)) (sym (one_leaves leg l.site d.here)) (write_grew p (child p i l j leg) h s)
 
   try_goes_on : (t : State) → Tried p i l j leg s t → GoesOnOrFull s → GoesOnOrFull t
-  try_goes_on t (passed q) h = h
-  try_goes_on t (full b why d f r) h = inr (why, refl, f)
-  try_goes_on t (wrote b d x) h = h
+  try_goes_on t (full b why d f r) h = inr (record { why = why; is = refl; inside = f })
+  try_goes_on t way h = h
 
   try_was_open : (t : State) → Tried p i l j leg s t → t.phase ≡ Open → s.phase ≡ Open
-  try_was_open t (passed q) e = e
   try_was_open t (full h why d f r) e = absurd (stopped_not_open why e)
-  try_was_open t (wrote h d x) e = e
+  try_was_open t way e = e
 
   -- With room for n labels and entries it does not stop.
   try_finds_room : (n : ℕ) (t : State) → Tried p i l j leg s t → s.phase ≡ Open → length s.bag ≤ s.count → s.count + leaves l.site leg ≤ n → n ≤ length s.labels → n ≤ p.capacity → t.phase ≡ Open
-  try_finds_room n t (passed q) o b k x y = o
   try_finds_room n t (full h why d f r) o b k x y = let one = one_leaves leg l.site d.here in absurd (omega arith)
-  try_finds_room n t (wrote h d _) o b k x y = o
+  try_finds_room n t way o b k x y = o
 
 -- The same for all legs.
 pub expand_grew : (p : Problem) (i : ℕ) (l : Label) (j : ℕ) (legs : List Leg) (s : State) → Grew (leaving l.site legs) s (expand p i l j legs s)

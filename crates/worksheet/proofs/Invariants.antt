@@ -39,11 +39,17 @@ pub record Going (p : Problem) (os : List Mark) (k : ℕ) (ls : List Label) (n :
   pub taken : k + length b ≡ n
   pub weighed : n + weight least p.graph.legs ≤ enough p
 
+-- Where label i is found with the mark m, the search can go on with this offer too, and its walk is the next offer.
+pub record FoundNext (p : Problem) (os : List Mark) (k : ℕ) (ls : List Label) (n : ℕ) (least : List ℕ) (b : List Entry) (i : ℕ) (m : Mark) : Type 0 where
+  pub going : Going p (m ∷ os) k ls n least b
+  pub written : i < n
+  pub next : NextOffer p os (trace ls i) m
+
 -- What stands in each phase.
 abbrev pub Standing : Problem → List Mark → ℕ → List Label → ℕ → List ℕ → List Entry → Phase → Type 0
 Standing p os k ls n least b Fresh = ⊥
 Standing p os k ls n least b Open = Going p os k ls n least b
-Standing p os k ls n least b (Found i m) = Going p (m ∷ os) k ls n least b × (i < n) × NextOffer p os (trace ls i) m
+Standing p os k ls n least b (Found i m) = FoundNext p os k ls n least b i m
 Standing p os k ls n least b Exhausted = (js : List ℕ) → RouteOf p js → Offered os (walk_mark p.graph js)
 Standing p os k ls n least b (Stopped why) = (why ≡ Outside → ⊥) × (enough p ≤ length ls → enough p ≤ p.capacity → ⊥)
 

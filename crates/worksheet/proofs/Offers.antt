@@ -27,7 +27,7 @@ module _ {t : Terms} {p : Problem} {w : State} (acc : Accepted t p w) where
       step_invariant acc os n (tick u) ticked (subst (StandingIn p os n u) o inv.standing) o (step p u) (stepped_ways p u)
   invariant os k s (resumed {os = q} {s = u} i m r f) =
       let inv = invariant q k u r in
-      record { chained = inv.chained; fits = inv.fits; standing = (subst (StandingIn p q k u) f inv.standing).0 }
+      record { chained = inv.chained; fits = inv.fits; standing = (subst (StandingIn p q k u) f inv.standing).going }
 
 -- The steps made are at most the labels written, which are at most enough.
 early : (p : Problem) (os : List Mark) (k : ℕ) (s : State) → Going p os k s.labels s.count s.least s.bag → k ≤ enough p
@@ -39,8 +39,8 @@ search_finds_all_offers t p w acc os k s r =
     let in_phase : (q : Phase) → s.phase ≡ q → StandingIn p os k s q = λ q e. subst (StandingIn p os k s) e inv.standing in
     let table = table_kept p w os k s r in
     record {
-      found_is_next = λ i m e. (in_phase (Found i m) e).2;
-      found_is_written = λ i m e. (in_phase (Found i m) e).1;
+      found_is_next = λ i m e. (in_phase (Found i m) e).next;
+      found_is_written = λ i m e. (in_phase (Found i m) e).written;
       exhausted_means_all_offered = λ e. in_phase Exhausted e;
       never_fresh = λ e. in_phase Fresh e;
       never_outside = λ e. (in_phase (Stopped Outside) e).0 refl;

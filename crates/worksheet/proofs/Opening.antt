@@ -71,7 +71,7 @@ module _ {t : Terms} {p : Problem} {w : State} (acc : Accepted t p w) where
       let is : label_at (set w.labels 0 (start_label p)) 0 ≡ start_label p = get_or-set_same w.labels 0 (start_label p) no_label acc.some_label in
       let ranked : Ranked p p.start 0 (p.graph.join 0 h.cost) = record { bound = h; known = e; cost_small = omega arith; bound_small = acc.start_estimate_fits h e; estimate = refl } in
       record {
-        chained = chained_more p w.labels 0 (start_label p) acc.some_label (λ i b. absurd (omega arith)) (refl, refl, refl);
+        chained = chained_more p w.labels 0 (start_label p) acc.some_label (λ i b. absurd (omega arith)) (record { number = refl; site = refl; mark = refl });
         fits = omega (arith, length-set w.labels 0 (start_label p), acc.some_label);
         standing = record {
           done = [];

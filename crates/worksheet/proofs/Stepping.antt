@@ -2,6 +2,7 @@
 use Rattle.std.proofs.Common.{◌≡◌, ℕ, suc, ◌+◌, ◌<◌, ◌≤◌, true, false, cond, ◌&&◌, eqb, ltb, leb, ◌⊎◌, List, [], ◌∷◌, length, get_or, set, sym, refl, ap, ◌∙◌, subst, inl, inr, ⊎_elim, arith, get_or-set_other, get_or-set_same}
 use Rattle.std.specs.List.{ContainsAt as Has}
 use Rattle.std.proofs.lemmas.Bool.{and_from, cond_both, both_ways, cases_eq, lt-ltb, le-leb, leb-true, leb-false}
+use Rattle.std.proofs.lemmas.Bool.Decides.{nat_tests}
 use Rattle.network.specs.declared.legs.Leg.{Leg}
 use Rattle.network.specs.Legs.{leg_in_range}
 use Rattle.network.specs.Tariffs.{Terms}
@@ -41,11 +42,11 @@ module _ {t : Terms} {p : Problem} {w : State} (acc : Accepted t p w)
     (os : List Mark) (k : ℕ) (s : State) (inv : Invariant p os k s) (going : Going p os k s.labels s.count s.least s.bag) (o : s.phase ≡ Open) where
   -- Each label settled at the goal is covered by an offer, and so is what it covers.
   arrived_offered : (f : Mark) → Arrived p going.done f → Offered os f
-  arrived_offered f a = offered_more os a.0.mark f a.3 (going.listed a.0 a.1 a.2)
+  arrived_offered f a = offered_more os a.by.mark f a.covers (going.listed a.by a.at a.site)
 
   -- Without an entry, each route is covered by a label settled at the goal.
   none_left_offered : s.bag ≡ [] → (f : Mark) → Reached p s.labels s.bag going.done f → Offered os f
-  none_left_offered q f (reached.arrived x at site c) = arrived_offered f (x, at, site, c)
+  none_left_offered q f (reached.arrived x at site c) = arrived_offered f (record { by = x; at = at; site = site; covers = c })
   none_left_offered q f (ahead e at js walk c) = absurd (has_none e (subst (λ (b : List Entry). Has b e) q at))
 
   none_left_invariant : s.bag ≡ [] → Invariant p os (suc k) (in_phase Exhausted s)
@@ -72,11 +73,8 @@ module _ {t : Terms} {p : Problem} {w : State} (acc : Accepted t p w)
     -- No number that the step uses leads outside.
     is_inside : inside p (with_bag es s) e.label l ≡ true
     is_inside =
-        and_from (p.whole && (ltb e.label s.count && ltb e.label (length s.labels))) (ltb l.site p.records && legs_inside p l.site p.graph.legs)
-        (and_from p.whole (ltb e.label s.count && ltb e.label (length s.labels)) acc.table_is_whole
-        (and_from (ltb e.label s.count) (ltb e.label (length s.labels)) (lt-ltb _ _ sound.below) (lt-ltb _ _ (omega (arith, sound.below, inv.fits)))))
-        (and_from (ltb l.site p.records) (legs_inside p l.site p.graph.legs) (lt-ltb _ _ (omega (arith, sound.place, acc.sites_have_records)))
-        (legs_are_inside p acc.legs_in_range acc.sites_have_records l.site 0 p.graph.legs (all_legs p.graph)))
+        let legs = legs_are_inside p acc.legs_in_range acc.sites_have_records l.site 0 p.graph.legs (all_legs p.graph) in
+        grind (arith, nat_tests, legs, sound.below, sound.place, inv.fits, acc.sites_have_records, acc.table_is_whole)
 
     -- Dropped, it leaves all else as it is.
     dropped_invariant : dominated s l.site l.mark ≡ true → Invariant p os (suc k) (with_bag es s)
@@ -144,18 +142,18 @@ module _ {t : Terms} {p : Problem} {w : State} (acc : Accepted t p w)
           record {
             chained = inv.chained;
             fits = inv.fits;
-            standing = (
-              record {
+            standing = record {
+              going = record {
                 done = settled_of l e.estimate ∷ going.done;
                 progress = arrived_progress acc s.labels s.count s.least e es going.done progress new goal;
                 listed = each_cons (λ x. x.site ≡ p.goal → Offered (l.mark ∷ os) x.mark) (settled_of l e.estimate) going.done (λ _. inl (covers_itself l.mark)) (λ x at f. inr (going.listed x at f));
                 lowered = each_cons (λ m. get_or least p.goal 0 ≤ m.delay) l.mark os (omega (arith, here)) (λ m at. omega (arith, lower, going.lowered m at));
                 taken = omega (arith, one_taken);
                 weighed = omega (arith, weight_falls s.least l.site l.mark.delay p.graph.legs new, going.weighed);
-              },
-              sound.below,
-              next_offer goal,
-            );
+              };
+              written = sound.below;
+              next = next_offer goal;
+            };
           }
 
       abbrev end : State
@@ -178,11 +176,11 @@ module _ {t : Terms} {p : Problem} {w : State} (acc : Accepted t p w)
       expanded_standing away (inr x) =
           let less = weight_falls s.least l.site l.mark.delay p.graph.legs new in
           let g = expand_grew p e.label l 0 p.graph.legs (settle l (with_bag es s)) in
-          subst (StandingIn p os (suc k) end) (sym x.1) (
-            x.2,
+          subst (StandingIn p os (suc k) end) (sym x.is) (
+            x.inside,
             λ a b.
                 let still = expand_finds_room p e.label l 0 p.graph.legs (enough p) (settle l (with_bag es s)) o (omega (arith, one_taken)) (omega (arith, less, going.weighed)) (omega (arith, a, g.table)) b in
-                stopped_not_open x.0 (sym x.1 ∙ still),
+                stopped_not_open x.why (sym x.is ∙ still),
           )
 
       expanded_invariant : (l.site ≡ p.goal → ⊥) → Invariant p os (suc k) end

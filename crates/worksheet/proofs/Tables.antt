@@ -1,11 +1,11 @@
 -- What holds of every series: the label table keeps its length, and steps are counted. Assumes nothing.
-use Rattle.std.proofs.Common.{◌≡◌, ℕ, ◌-◌, ◌^◌, min, Bool, true, false, leb, List, length, Some, None, Option, refl, ◌∙◌, arith, length-set}
+use Rattle.std.proofs.Common.{◌≡◌, ℕ, ◌-◌, ◌^◌, min, List, length, Option, refl, ◌∙◌, arith, length-set}
 use Rattle.network.specs.declared.estimates.Bound.{Bound}
 use Rattle.worksheet.specs.declared.records.Mark.{Mark}
 use Rattle.worksheet.specs.Problem.{Problem}
-use Rattle.worksheet.specs.Steps.{State, with_bag, settle, tick, step, start_label, open_fit, open_at}
+use Rattle.worksheet.specs.Steps.{State, with_bag, settle, tick, step, open_at}
 use Rattle.worksheet.specs.Series.{Series, begun, stepped, resumed}
-use Rattle.worksheet.proofs.Ways.{label_of, Stepped, none_left, led_outside, dropped, arrived, expanded, stepped_ways}
+use Rattle.worksheet.proofs.Ways.{label_of, Stepped, expanded, stepped_ways}
 use Rattle.worksheet.proofs.Growing.{expand_grew}
 
 -- From s to t the label table is as long, and the steps are the same.
@@ -14,21 +14,13 @@ record SameSize (s t : State) : Type 0 where
   steps : t.steps ≡ s.steps
 
 step_same_size : (p : Problem) (s t : State) → Stepped p s t → SameSize s t
-step_same_size p s t (none_left q) = record { table = refl; steps = refl }
-step_same_size p s t (led_outside e es q f) = record { table = refl; steps = refl }
-step_same_size p s t (dropped e es q r) = record { table = refl; steps = refl }
-step_same_size p s t (arrived e es q r goal) = record { table = refl; steps = refl }
 step_same_size p s t (expanded e es q r away) =
     let g = expand_grew p e.label (label_of s e) 0 p.graph.legs (settle (label_of s e) (with_bag es s)) in
     record { table = g.table; steps = g.steps }
-
-fit_sizes : (p : Problem) (w : State) (h : Bound) (b : Bool) → (length (open_fit p w h b).labels ≡ length w.labels) × ((open_fit p w h b).steps ≡ 0)
-fit_sizes p w h false = (refl, refl)
-fit_sizes p w h true = (length-set w.labels 0 (start_label p), refl)
+step_same_size p s t way = record { table = refl; steps = refl }
 
 open_sizes : (p : Problem) (w : State) (o : Option Bound) → (length (open_at p w o).labels ≡ length w.labels) × ((open_at p w o).steps ≡ 0)
-open_sizes p w None = (refl, refl)
-open_sizes p w (Some h) = fit_sizes p w h (leb h.delay p.limit)
+open_sizes p w o = (grind (arith, length-set), grind arith)
 
 pub table_kept : (p : Problem) (w : State) (os : List Mark) (k : ℕ) (s : State) → Series p w os k s → length s.labels ≡ length w.labels
 table_kept p w os k s begun = (open_sizes p w (p.at p.start)).0

@@ -23,7 +23,7 @@ use Rattle.worksheet.proofs.Estimates.{same_some, Sooner, Ranked, bounded, cheap
 use Rattle.worksheet.proofs.Ways.{label_of}
 use Rattle.worksheet.proofs.Growing.{record_is_there}
 use Rattle.worksheet.proofs.Chains.{all_legs}
-use Rattle.worksheet.proofs.Covering.{Settled, mark_of, Sound, Handled, hopeless, covered, waiting, Closed, Fair, Reached, arrived, ahead, handled_is_reached}
+use Rattle.worksheet.proofs.Covering.{Settled, mark_of, Sound, Handled, hopeless, covered, waiting, Closed, DueTo, Fair, Reached, arrived, ahead, handled_is_reached}
 use Rattle.worksheet.proofs.Expanding.{HandledIn, handled_kept, expand_keeps, AllSooner, expand_fair, expand_handles}
 
 -- How far a search has come that can go on: `done` has the settled labels.
@@ -36,8 +36,11 @@ abbrev pub settled_of : Label → ℕ → Settled
 settled_of l e = record { site = l.site; mark = l.mark; estimate = e }
 
 -- A label settled at the goal covers f.
-abbrev pub Arrived : Problem → List Settled → Mark → Type 0
-Arrived p done f = (x : Settled) × Has done x × (x.site ≡ p.goal) × Covers x.mark f
+pub record Arrived (p : Problem) (done : List Settled) (f : Mark) : Type 0 where
+  pub by : Settled
+  pub at : Has done by
+  pub site : by.site ≡ p.goal
+  pub covers : Covers by.mark f
 
 module _ {t : Terms} {p : Problem} {w : State} (acc : Accepted t p w) (ls : List Label) (n : ℕ) (least : List ℕ) where
   -- Every route was handled from the start on, and so is reached.
@@ -83,7 +86,7 @@ module _ {t : Terms} {p : Problem} {w : State} (acc : Accepted t p w) (ls : List
         (cases_lt e.cost f.cost)
 
     next_by : l.site ≡ p.goal → (f : Mark) → Reached p ls (e ∷ es) done f → Arrived p done f ⊎ NoLater (mark_of e) f
-    next_by goal f (arrived x at site c) = inl (x, at, site, c)
+    next_by goal f (arrived x at site c) = inl (record { by = x; at = at; site = site; covers = c })
     next_by goal f (ahead y at js q c) = inr (no_later goal y at f js q c)
 
     -- At the goal, every route comes after it, but for those that a label settled there covers.
@@ -99,10 +102,10 @@ module _ {t : Terms} {p : Problem} {w : State} (acc : Accepted t p w) (ls : List
           let sound = first_sound in
           let same = ap (λ (z : Mark). z.delay) sound.mark in
           let due = progress.fair.due l.site l.mark.delay sound.place known (omega (arith, same, sound.within)) in
-          let x = due.0 in
-          let first = subst (λ u. Ranked p u x.mark.cost x.estimate) due.2 (progress.fair.ranked x due.1) in
-          let cost = cheaper acc l.site x.mark.cost x.estimate e.cost e.estimate first sound.ranked (progress.fair.order x due.1 e (has_first e es)) in
-          covered x due.1 (due.2 ∙ site) (le_trans cost c.0, omega (arith, due.3, same, c.1))
+          let x = due.by in
+          let first = subst (λ u. Ranked p u x.mark.cost x.estimate) due.site (progress.fair.ranked x due.at) in
+          let cost = cheaper acc l.site x.mark.cost x.estimate e.cost e.estimate first sound.ranked (progress.fair.order x due.at e (has_first e es)) in
+          covered x due.at (due.site ∙ site) (le_trans cost c.0, omega (arith, due.delay, same, c.1))
 
       drop_handled : (v : ℕ) (m : Mark) → Handled p ls n (e ∷ es) done v m → Handled p ls n es done v m
       drop_handled v m (hopeless k) = hopeless k
@@ -143,15 +146,15 @@ module _ {t : Terms} {p : Problem} {w : State} (acc : Accepted t p w) (ls : List
       settle_ranked : Ranked p l.site l.mark.cost e.estimate
       settle_ranked = subst (λ (z : Mark). Ranked p l.site z.cost e.estimate) first_sound.mark first_sound.ranked
 
-      settle_due : (v d : ℕ) → v < p.sites → get_or (set least l.site l.mark.delay) v 0 ≤ d → d ≤ p.limit → (x : Settled) × Has more_done x × (x.site ≡ v) × (x.mark.delay ≤ d)
+      settle_due : (v d : ℕ) → v < p.sites → get_or (set least l.site l.mark.delay) v 0 ≤ d → d ≤ p.limit → DueTo more_done v d
       settle_due v d b h q =
           ⊎_elim
           (λ (same : v ≡ l.site).
           let is = ap (λ x. get_or (set least l.site l.mark.delay) x 0) same ∙ get_or-set_same least l.site l.mark.delay 0 (record_is_there least l.site l.mark.delay new) in
-          (settled_of l e.estimate, has_first (settled_of l e.estimate) done, sym same, omega (arith, h, is)))
+          record { by = settled_of l e.estimate; at = has_first (settled_of l e.estimate) done; site = sym same; delay = omega (arith, h, is) })
           (λ (apart : v ≡ l.site → ⊥).
           let due = progress.fair.due v d b (omega (arith, h, get_or-set_other least l.site v l.mark.delay 0 apart)) q in
-          (due.0, has_rest (settled_of l e.estimate) done due.0 due.1, due.2, due.3))
+          record { by = due.by; at = has_rest (settled_of l e.estimate) done due.by due.at; site = due.site; delay = due.delay })
           (cases_eq v l.site)
 
       -- All entries that are left come after it.

@@ -1,5 +1,5 @@
 -- What trying a leg, and making a step, can come to. Assumes nothing.
-use Rattle.std.proofs.Common.{◌≡◌, ℕ, ◌+◌, ◌<◌, ◌≤◌, Bool, true, false, ◌&&◌, eqb, ltb, leb, ◌⊎◌, List, [], ◌∷◌, length, Some, None, Option, refl, inl, inr, ⊎_elim, arith}
+use Rattle.std.proofs.Common.{◌≡◌, ℕ, ◌+◌, ◌<◌, ◌≤◌, Bool, true, false, ◌&&◌, eqb, ltb, leb, ◌⊎◌, List, [], ◌∷◌, length, Some, None, Option, refl, inl, inr, ⊎_elim}
 use Rattle.std.proofs.lemmas.Bool.{and_cases, and_parts, leb-true, leb-false, ltb-true, ltb-false, eqb-true, eqb-false}
 use Rattle.network.specs.declared.estimates.Bound.{Bound}
 use Rattle.network.specs.declared.legs.Leg.{Leg}

@@ -1,5 +1,6 @@
 -- What opening a search and each of its steps make of a worksheet. Assumes nothing.
-use Rattle.std.specs.Prelude.{ℕ, suc, ◌+◌, ◌-◌, ◌^◌, min, Bool, true, false, cond, ◌&&◌, List, [], ◌∷◌, ◌++◌, length, drop, replicate, Some, None, Option, ◌==◌, nat_le, nat_lt, slice_index, slice_index_or, slice_set}
+use Rattle.std.specs.Prelude.{ℕ, suc, ◌+◌, ◌-◌, ◌^◌, min, Bool, true, false, ◌&&◌, List, [], ◌∷◌, ◌++◌, length, drop, replicate, Some, None, Option, ◌==◌, nat_le, nat_lt, slice_index, slice_index_or, slice_set, if◌then◌else◌}
+use Rattle.std.specs.List.{list_all}
 use Rattle.network.specs.declared.estimates.Bound.{Bound}
 use Rattle.network.specs.declared.legs.Leg.{Leg}
 use Rattle.network.specs.declared.refusals.Stop.TheVariants.{Outside, LabelsUsed, QueueFull}
@@ -8,7 +9,7 @@ use Rattle.queue.specs.Bag.{insert}
 use Rattle.worksheet.specs.declared.records.Label.{Label}
 use Rattle.worksheet.specs.declared.records.Mark.{Mark}
 use Rattle.worksheet.specs.declared.records.Phase.{Phase}
-use Rattle.worksheet.specs.declared.records.Phase.TheVariants.{Fresh, Open, Found, Exhausted, Stopped}
+use Rattle.worksheet.specs.declared.records.Phase.TheVariants.{Open, Found, Exhausted, Stopped}
 use Rattle.worksheet.specs.Problem.{Problem, nothing, extend}
 
 -- What a search alters: the label records, of which `count` are written, the least-delay records, the queue's bag, the
@@ -32,21 +33,18 @@ abbrev pub entry_of : Problem → ℕ → Label → Bound → Entry
 entry_of p i l h = record { estimate = p.graph.join l.mark.cost h.cost; cost = l.mark.cost; delay = l.mark.delay; label = i }
 
 abbrev pub in_phase : Phase → State → State
-in_phase q s = record { labels = s.labels; count = s.count; least = s.least; bag = s.bag; phase = q; steps = s.steps }
+in_phase q s = record s { phase = q }
 
 abbrev pub with_bag : List Entry → State → State
-with_bag es s = record { labels = s.labels; count = s.count; least = s.least; bag = es; phase = s.phase; steps = s.steps }
+with_bag es s = record s { bag = es }
 
 -- One label more, with its entry.
 abbrev pub write : Problem → Label → Bound → State → State
-write p l h s = record { labels = slice_set s.labels s.count l; count = suc s.count; least = s.least; bag = insert (entry_of p s.count l h) s.bag; phase = s.phase; steps = s.steps }
+write p l h s = record s { labels = slice_set s.labels s.count l; count = suc s.count; bag = insert (entry_of p s.count l h) s.bag }
 
 abbrev pub is_open : Phase → Bool
-is_open Fresh = false
 is_open Open = true
-is_open (Found i m) = false
-is_open Exhausted = false
-is_open (Stopped why) = false
+is_open q = false
 
 -- The delay is not below the least-delay record of the site: dominated by a label that was taken there before.
 abbrev pub dominated : State → ℕ → Mark → Bool
@@ -92,7 +90,7 @@ expand p i l j (leg ∷ more) s = expand p i l (suc j) more (try p i l j leg s)
 
 -- The label's delay becomes its site's least-delay record.
 abbrev pub settle : Label → State → State
-settle l s = record { labels = s.labels; count = s.count; least = slice_set s.least l.site l.mark.delay; bag = s.bag; phase = s.phase; steps = s.steps }
+settle l s = record s { least = slice_set s.least l.site l.mark.delay }
 
 -- At the goal the search has found; elsewhere the label is expanded.
 abbrev pub arrive : Problem → ℕ → Label → State → Bool → State
@@ -106,8 +104,7 @@ take_new p i l s false = arrive p i l s (l.site == p.goal)
 
 -- Every leg from a site has a medium and leads to a site with a least-delay record.
 abbrev pub legs_inside : Problem → ℕ → List Leg → Bool
-legs_inside p site [] = true
-legs_inside p site (leg ∷ more) = cond (leg.tail == site) (nat_lt leg.head p.records && nat_le leg.medium 7) true && legs_inside p site more
+legs_inside p site = list_all (λ leg. if leg.tail == site then (nat_lt leg.head p.records && nat_le leg.medium 7) else true)
 
 -- No number that a step with label i uses leads outside its table.
 abbrev pub inside : Problem → State → ℕ → Label → Bool
@@ -126,7 +123,7 @@ step_from p (e ∷ es) s =
 
 -- Steps are counted, up to the largest number of 64 bits.
 abbrev pub tick : State → State
-tick s = record { labels = s.labels; count = s.count; least = s.least; bag = s.bag; phase = s.phase; steps = min (suc s.steps) (2 ^ 64 - 1) }
+tick s = record s { steps = min (suc s.steps) (2 ^ 64 - 1) }
 
 abbrev pub step : Problem → State → State
 step p s = step_from p s.bag (tick s)

@@ -50,8 +50,9 @@ pub struct Label {
 }
 
 // How far a search has come. `Found` has the label at the goal and what its walk comes to.
-#[derive(Clone, Copy, PartialEq, Eq, Debug)]
+#[derive(Clone, Copy, PartialEq, Eq, Default, Debug)]
 pub enum Phase {
+    #[default]
     Fresh,
     Open,
     Found(usize, Mark),

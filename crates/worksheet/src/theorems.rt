@@ -9,6 +9,7 @@ pub fn search_finds_all_offers() -> u8
 }
 
 // The first offer of an accepted search is the cheapest route; ended, the search is exhausted exactly if there is no route.
+#[tactic(auto, using(crate::proofs::Offers::first_offer_is_cheapest))]
 pub fn first_offer_is_cheapest() -> u8
     ensures { FirstOfferIsCheapest }
 {

@@ -1,5 +1,5 @@
 // How the lines of a sheet are read.
-ghost use Rattle.std.specs.Prelude.{◌≡◌, length};
+ghost use Rattle.std.specs.Prelude.{◌≡◌, true, length, IfOk, IfSome};
 ghost use Rattle.sheet.specs.Calls.{answer_of, fronted, line_shown, legs_ahead, load_of, network_after, next_of, moved, reader_after, rows_left};
 ghost use Rattle.sheet.specs.Words.{line_kind};
 ghost use Rattle.sheet.specs.Sheets.{line_ahead, leg_stated, one_more, sites_stated, plan_stated};
@@ -9,57 +9,59 @@ use crate::reader::Reader;
 use crate::text::find;
 use crate::words::{Line, kind};
 use network::legs::*;
+use network::limits::MOST_LEGS;
 use network::plans::Plan;
 use network::refusals::Refusal;
 
-// A line, and the place after it.
+// A line with its number, and the place after it.
 #[derive(Clone, Copy)]
 struct Ahead<'a> {
     line: Line<'a>,
+    number: u64,
     after: usize,
 }
 
-// The number of sites that the first line states.
-fn sites_on(line: Line<'_>, number: u64) -> Result<u16, Refusal>
-    ensures { result ≡ sites_stated number (line_kind line.entry) }
-{
-    match line {
-        Line::Network(rest) => network_entry(rest, number),
-        _ => Err(Refusal::OutOfPlace(number)),
-    }
-}
-
-// The leg that a later line states, if there is room for it; none where the plans begin.
-fn leg_on(line: Line<'_>, sites: u16, number: u64, free: bool) -> Result<Option<Leg>, Refusal>
-    ensures { result ≡ leg_stated sites number free (line_kind line.entry) }
-{
-    match line {
-        Line::Network(_) => Err(Refusal::OutOfPlace(number)),
-        Line::Plan(_) => Ok(None),
-        Line::Leg(rest) => {
-            let leg = leg_entry(rest, sites, number)?;
-            if !free {
-                return Err(Refusal::TableFull(number));
-            }
-            Ok(Some(leg))
+impl Ahead<'_> {
+    // The number of sites that the first line states.
+    fn sites(self) -> Result<u16, Refusal>
+        ensures { result ≡ sites_stated self.entry.number (line_kind self.entry.line) }
+    {
+        let line = self.number;
+        match self.line {
+            Line::Network(rest) => Entry { rest, line }.sites(),
+            _ => Err(Refusal::OutOfPlace(line)),
         }
     }
-}
 
-// The plan that a line states after an accepted load.
-fn plan_on(line: Line<'_>, loaded: bool, sites: u16, number: u64) -> Result<Plan, Refusal>
-    ensures { result ≡ plan_stated loaded sites number (line_kind line.entry) }
-{
-    match line {
-        Line::Plan(rest) if loaded => plan_entry(rest, sites, number),
-        _ => Err(Refusal::OutOfPlace(number)),
+    // The leg that a later line states; none where the plans begin.
+    fn leg(self, sites: u16) -> Result<Option<Leg>, Refusal>
+        ensures { result ≡ leg_stated sites self.entry.number true (line_kind self.entry.line) }
+    {
+        let line = self.number;
+        match self.line {
+            Line::Network(_) => Err(Refusal::OutOfPlace(line)),
+            Line::Plan(_) => Ok(None),
+            Line::Leg(rest) => Entry { rest, line }.leg(sites).map(Some),
+        }
+    }
+
+    // The plan that a line states.
+    fn plan(self, sites: u16) -> Result<Plan, Refusal>
+        ensures { result ≡ plan_stated true sites self.entry.number (line_kind self.entry.line) }
+    {
+        let line = self.number;
+        match self.line {
+            Line::Plan(rest) => Entry { rest, line }.plan(sites),
+            _ => Err(Refusal::OutOfPlace(line)),
+        }
     }
 }
 
 impl<'a> Reader<'a> {
     // The line at the reader's place by its kind; none at the end of the sheet.
     fn ahead(&self) -> Result<Option<Ahead<'a>>, Refusal>
-        ensures { line_shown result ≡ line_ahead self.now.line self.now.place (rows_left self.now) }
+        ensures shown { line_shown result ≡ line_ahead self.now.line self.now.place (rows_left self.now) }
+        ensures numbered { IfOk result (λ o. IfSome o (λ a. a.number ≡ self.now.line)) }
     {
         if self.place >= self.sheet.len() {
             return Ok(None);
@@ -69,6 +71,7 @@ impl<'a> Reader<'a> {
         let line = kind(&left[..end]).ok_or(Refusal::UnknownWord(self.line))?;
         Ok(Some(Ahead {
             line,
+            number: self.line,
             after: self.place + end + 1,
         }))
     }
@@ -87,17 +90,23 @@ impl<'a> Reader<'a> {
         ensures reader { self.new ≡ moved self.old (legs_ahead sites (length table.old) self.old).at (legs_ahead sites (length table.old) self.old).line }
         ensures legs { table.new ≡ fronted (legs_ahead sites (length table.old) self.old).legs table.old }
     {
-        let mut m: u16 = 0;
+        let room = table.len().min(usize::from(MOST_LEGS));
+        let mut count = 0;
         while let Some(ahead) = self.ahead()? {
-            let free = (m as usize) < table.len() && m < 4096;
-            let Some(leg) = leg_on(ahead.line, sites, self.line, free)? else {
+            let Some(leg) = ahead.leg(sites)? else {
                 break;
             };
-            table[m as usize] = leg;
-            m += 1;
+            if count == room {
+                return Err(Refusal::TableFull(ahead.number));
+            }
+            table[count] = leg;
+            count += 1;
             self.go_on(ahead.after);
         }
-        Ok(Network { sites, legs: m })
+        Ok(Network {
+            sites,
+            legs: count as u16,
+        })
     }
 
     // Reads the network line and the legs, from the start of the sheet up to the first ended plan line or the end. The legs
@@ -113,7 +122,7 @@ impl<'a> Reader<'a> {
         self.line = 1;
         self.loaded = false;
         let first = self.ahead()?.ok_or(Refusal::OutOfPlace(1))?;
-        let sites = sites_on(first.line, 1)?;
+        let sites = first.sites()?;
         self.go_on(first.after);
         *network = self.read_legs(sites, table)?;
         self.loaded = true;
@@ -126,13 +135,14 @@ impl<'a> Reader<'a> {
         ensures answer { result ≡ (next_of network.now.sites self.old).answer }
         ensures reader { self.new ≡ moved self.old (next_of network.now.sites self.old).at (next_of network.now.sites self.old).line }
     {
-        let Some(ahead) = self.ahead()? else {
-            if !self.loaded {
-                return Err(Refusal::OutOfPlace(self.line));
-            }
+        let ahead = self.ahead()?;
+        if !self.loaded {
+            return Err(Refusal::OutOfPlace(self.line));
+        }
+        let Some(ahead) = ahead else {
             return Ok(None);
         };
-        let plan = plan_on(ahead.line, self.loaded, network.sites, self.line)?;
+        let plan = ahead.plan(network.sites)?;
         self.go_on(ahead.after);
         Ok(Some(plan))
     }

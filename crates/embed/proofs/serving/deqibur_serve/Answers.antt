@@ -1,4 +1,4 @@
-use Rattle.std.proofs.Common.{replicate, refl, rules}
+use Rattle.std.proofs.Common.{replicate, refl}
 use Rattle.embed.proofs.Loading.{ends_at_load, goes_on}
 use Rattle.embed.proofs.serving.deqibur_serve.Goals as goal
 
@@ -8,4 +8,4 @@ returns-in-Err c = ends_at_load _ _ (replicate 4096 c.default-table.result) c.ne
 pub returns : goal.returns
 returns c =
     let load = c.load.ensures in
-    goes_on _ _ (replicate 4096 c.default-table.result) c.new-reader.result c.new-reader.ensures refl _ c.in_default.not-Err load.answer c.default-network.result _ load.network _ load.legs _ c.serve_times.ensures _ _ (search rules) c.unwrap_or.ensures
+    goes_on _ _ (replicate 4096 c.default-table.result) c.new-reader.result c.new-reader.ensures refl _ c.in_default.not-Err load.answer c.default-network.result _ load.network _ load.legs _ c.serve_times.ensures _ c.unwrap_or_else.ensures

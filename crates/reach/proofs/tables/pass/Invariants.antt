@@ -9,5 +9,7 @@ invariant-loop-leg g l =
     let priced = graph (g.T.Tariff.terms l.tariff) l.legs in
     let now : Tables = record { costs = l.costs; delays = l.delays } in
     let first : Tables = record { costs = l.initial.costs; delays = l.initial.delays } in
-    (passed priced (drop l.leg-index l.legs) now ≡ passed priced l.legs first)
-    × ((l.changed || changes priced (drop l.leg-index l.legs) now) ≡ changes priced l.legs first)
+    record {
+      tables : passed priced (drop l.leg-index l.legs) now ≡ passed priced l.legs first;
+      answer : (l.changed || changes priced (drop l.leg-index l.legs) now) ≡ changes priced l.legs first;
+    }

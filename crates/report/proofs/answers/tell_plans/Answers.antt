@@ -1,9 +1,8 @@
-use Rattle.std.proofs.Common.{◌≡◌, ℕ, ◌++◌, length, replicate, vec_items, sym, ap, ◌∙◌, arith}
+use Rattle.std.proofs.Common.{◌≡◌, ℕ, ◌++◌, length, replicate, vec_items, ap, ◌∙◌, arith}
 use Rattle.std.proofs.lemmas.List.{length-replicate}
 use Rattle.sheet.specs.declared.reader.Reader.{Reader}
 use Rattle.report.specs.Lines.{plan_line}
 use Rattle.planner.specs.Desks.{desk_of}
-use Rattle.sheet.proofs.Moving.{less_is_left}
 use Rattle.report.proofs.Listing.{two_pieces}
 use Rattle.report.proofs.Telling.{line_is, ends_with_none, ends_refused, leads_on}
 use Rattle.report.proofs.answers.tell_plans.Goals as goal
@@ -19,11 +18,6 @@ returns-in-Err c =
     let told = c.plans.invariant.told in
     let refused = rw c.plans.invariant.room at c.in-Err.ensures.served in
     (told.0, told.1, ends_refused _ _ _ _ _ _ c.plans.reader _ c.plans.invariant.loaded c.plans.invariant.same_sheet told.2 c.in-Err.why _ c.line-line.ensures (desk_of c.serve_next.new.desk c.serve_next.new.tally) refused)
-
-pub plans-smaller : goal.plans-smaller
-plans-smaller c =
-    let served = rw c.in-Ok-Some.field-0-is at c.in-Ok-Some.ensures.served in
-    less_is_left _ c.plans.reader c.serve_next.new.reader c.in-Ok-Some.plan (sym served.0) c.in-Ok-Some.ensures.reader
 
 pub plans-preserved : goal.plans-preserved
 plans-preserved c =

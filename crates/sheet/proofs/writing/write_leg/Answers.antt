@@ -14,7 +14,7 @@ returns c =
     let e = ap (λ ns. length (listed ns)) c.numbers-numbers.ensures in
     let b' = c.copy_from_slice.new.self ++ drop 3 b in
     let w : set (put_mid 3 (length b' - 3) b' c.put_listed.new.buffer) (3 + c.listed_len-end.result) 10 ≡ laid (leg_text l) 0 b =
-    lay_leg c.numbers-numbers.result b _ _ _ (omega (arith, c.listed_len-end.ensures.value)) (ap (λ t. t ++ drop 3 b) c.copy_from_slice.ensures.after) c.put_listed.ensures.after (omega (arith, c.listed_len-end.ensures.value))
+    lay_leg c.numbers-numbers.result b _ _ _ (omega (arith, c.listed_len-end.ensures.value)) (ap (λ t. t ++ drop 3 b) c.copy_from_slice.ensures.after) c.put_listed.ensures (omega (arith, c.listed_len-end.ensures.value))
     ∙ ap (λ ns. laid (codes "leg" ++ (listed ns ++ (10 ∷ []))) 0 b) c.numbers-numbers.ensures in
     record {
       answer = written_ok l (length b) _ r (omega (arith, c.listed_len-end.ensures.value)) (omega (arith, c.listed_len-end.ensures.value));

@@ -1,10 +1,7 @@
-use Rattle.std.proofs.Common.{◌+◌, ap, arith}
+use Rattle.std.proofs.Common.{◌+◌, ap₂, ◌∙◌}
 use Rattle.network.specs.Legs.{leg_delay}
 use Rattle.network.proofs.legs.Leg.delay.Goals as goal
 
-pub returns : goal.returns
+pub returns-clause-value : goal.returns-clause-value
 unfolding leg_delay
-returns c = record {
-  value = ap (λ h. c.args.self.now.stated + h) c.handover.ensures.value;
-  bound = omega (arith, c.handover.ensures.bound);
-}
+returns-clause-value c = ap₂ (λ stated handover. stated + handover) c.from.ensures (c.from-2.ensures ∙ c.handover.ensures.value)

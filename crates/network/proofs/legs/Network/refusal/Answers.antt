@@ -1,4 +1,6 @@
-use Rattle.std.proofs.Common.{rules}
+use Rattle.std.proofs.Common.{ap, ◌∙◌, rules}
+use Rattle.network.specs.Checks.{first_failing}
+use Rattle.network.specs.Legs.{leg_in_range}
 use Rattle.network.proofs.Checking.{refused_by_size, refused_by_legs}
 use Rattle.network.proofs.legs.Network.refusal.Goals as goal
 
@@ -6,4 +8,6 @@ pub returns-then-not-sizes_fit : goal.returns-then-not-sizes_fit
 returns-then-not-sizes_fit c = refused_by_size c.args.self.now c.args.table.now c.if-not-sizes_fit.ensures
 
 pub returns : goal.returns
-returns c = Prim.search (rules, refused_by_legs c.args.self.now c.args.table.now c.first_out_of_range.result c.if-not-sizes_fit.ensures c.first_out_of_range.ensures)
+returns c =
+    let first = c.first_out_of_range.ensures ∙ ap (first_failing (leg_in_range c.args.self.now.sites) 0) c.legs_in.ensures.legs in
+    Prim.search (rules, refused_by_legs c.args.self.now c.args.table.now c.first_out_of_range.result c.if-not-sizes_fit.ensures first)

@@ -1,4 +1,3 @@
-use Rattle.std.proofs.Common.{◌≡◌}
 use Rattle.search.specs.Calls.{setting_of, worksheet}
 use Rattle.search.proofs.Trying.{Expanding}
 use Rattle.search.proofs.record.Search.expand.Given as goal
@@ -9,4 +8,4 @@ invariant-loop-i g l =
     let s = setting_of g.T.Tariff.terms g.E.Estimate.at l.lent l.initial.labels l.least (q.room l.initial.queue) in
     let w₀ = worksheet l.initial.self l.initial.labels l.least (q.bag l.initial.queue) in
     let w = worksheet l.self l.labels l.least (q.bag l.queue) in
-    Expanding s w₀ l.from.number l.from.label l.legs w l.i × (q.room l.queue ≡ q.room l.initial.queue)
+    Expanding s w₀ l.from.number l.from.label l.legs w (q.room l.queue) l.i

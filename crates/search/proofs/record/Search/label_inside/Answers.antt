@@ -22,8 +22,8 @@ returns g c =
     elim c.if-sound.branch [
       | then-sound w ↦ w.then_some-is ∙ w.if-sound.true ∙ inside_with_all records from.site net table (sym w.if-sound.true ∙ c.requires)
       | else-sound w ↦
-          let legs = front.2 ∙ ap (λ k. take k table) (sub-zero net.legs) in
+          let legs = front.2 ∙ ap (λ k. take k table) (sub-zero c.from.result ∙ c.from.ensures) in
           w.then_some-is ∙ all_from_yields_List (leg_inside records from.site) _ _ w.all.result w.all.ensures.ran (YieldsList-from_slice (legs_of net table) (w.iter.ensures.rest ∙ legs)) (λ x b q k. search (rules, tests))
     ]
     in
-    c.then_some.ensures ∙ inside_by records net table _ _ _ from _ c.if-i-self.false found.0 (found.1 no_label) (omega (arith, c.if-from-records.false, c.from.ensures)) front.1 asked
+    c.then_some.ensures ∙ inside_by records net table _ _ _ _ from _ c.recorded.ensures found.0 (found.1 no_label) (omega (arith, c.if-from-records.false, c.from-2.ensures)) (omega (arith, c.from.ensures, front.1)) asked

@@ -1,6 +1,6 @@
 use Rattle.std.proofs.Common.{◌≤◌, length, arith}
 use Rattle.search.proofs.Traces.{lay_on, lay_fits, lay_ends}
-use Rattle.search.proofs.tracing.write_chain.Goals as goal
+use Rattle.search.proofs.tracing.Chain.write.Goals as goal
 
 pub overflow_sub-place : goal.overflow_sub-place
 overflow_sub-place c = omega (arith, lay_fits _ _ _ _ _ _ _ _ _ c.loop-origin.invariant c.requires.long _ c.in-Some.ensures)
