@@ -1,1 +1,5 @@
 pub mod Rates
+pub mod Agreement
+pub mod Counts
+pub mod Tellings
+pub mod Readings

@@ -1,4 +1,7 @@
 // Known cases, each of which tells a wrong reading of the problem from the right one.
+ghost use Rattle.std.specs.Prelude.{OnOk};
+ghost use Rattle.crosscheck.specs.Tellings.{Told};
+
 use crate::draws::Question;
 use crate::report::Report;
 use crate::runs::*;
@@ -15,7 +18,7 @@ use std::io;
 use worksheet::records::*;
 
 // Network A: routes from 0 to 3 by 1 (fee 4, delay 9), by 2 (fee 5, delay 3) and straight (fee 9, delay 1).
-fn four_sites(heap: Global, limit: u32) -> Result<Question, AllocError> {
+pub(crate) fn four_sites(heap: Global, limit: u32) -> Result<Question, AllocError> {
     Ok(Question {
         network: network_a(),
         legs: Vec::from_array(heap, legs_a())?,
@@ -50,8 +53,23 @@ fn print_route(rt: &impl Print, name: &str, outcome: &Outcome) -> io::Result<()>
     println!(rt; "case,{name},cost {cost},delay {delay},legs {route:?}")
 }
 
-// Plans a case by total fee with the blank estimate, notes where the second implementation differs, and prints the route.
+// Notes where a case's search differs from the second implementation, and prints the route.
 fn print_case(
+    rt: &impl Print,
+    name: &str,
+    task: &Task,
+    means: Means,
+    outcome: &Outcome,
+    report: &mut Report,
+) -> io::Result<()>
+    ensures told { OnOk result (Told task.now means outcome.now report.old.findings.items report.new.findings.items) }
+{
+    report.note(task.seed, task.check(means, outcome))?;
+    print_route(rt, name, outcome)
+}
+
+// Plans a case by total fee with the blank estimate, and compares what that comes to.
+fn run_case(
     rt: &(impl Print + AllocGlobal),
     name: &str,
     question: &Question,
@@ -62,27 +80,26 @@ fn print_case(
     let mut queue = Heap::new(heap, means.entries)?;
     let outcome = run(heap, question, means, &mut queue, &TotalFee, &Blank)?;
     let task = Task::new(heap, 0, question, Rate::Fees)?;
-    report.note(0, task.check(means, &outcome))?;
-    print_route(rt, name, &outcome)
+    print_case(rt, name, &task, means, &outcome, report)
 }
 
 // All cases. Were the delay counted from after the first leg, the first would take legs 0 and 1; with one label for each site,
 // the second would find none; ended when a label at the goal is written, the third would take leg 4.
-pub fn print_cases(rt: &(impl Print + AllocGlobal), report: &mut Report) -> io::Result<()> {
+pub(crate) fn print_cases(rt: &(impl Print + AllocGlobal), report: &mut Report) -> io::Result<()> {
     let heap = rt.alloc();
-    print_case(
+    run_case(
         rt,
         "the first leg's delay counts",
         &four_sites(heap, 8)?,
         report,
     )?;
-    print_case(
+    run_case(
         rt,
         "a site has several labels",
         &cheaper_or_sooner(heap)?,
         report,
     )?;
-    print_case(
+    run_case(
         rt,
         "a label at the goal waits",
         &four_sites(heap, 9)?,

@@ -20,14 +20,14 @@ pub struct Question {
 }
 
 impl Draws {
-    pub fn new(seed: u32) -> Draws {
+    pub(crate) fn new(seed: u32) -> Draws {
         Draws {
             state: u64::from(seed),
         }
     }
 
     // The next number, from 0 to `most`.
-    pub fn up_to(&mut self, most: u16) -> u16
+    pub(crate) fn up_to(&mut self, most: u16) -> u16
         ensures { result ≤ most }
     {
         self.state = self
@@ -72,7 +72,7 @@ impl Draws {
     }
 
     // A network of 1 to 6 sites and 0 to 16 legs, and a question with a limit from 0 to 30.
-    pub fn question(&mut self, heap: Global) -> Result<Question, AllocError> {
+    pub(crate) fn question(&mut self, heap: Global) -> Result<Question, AllocError> {
         let last = self.up_to(5);
         let count = self.up_to(8) + self.up_to(8);
         let legs = (0..count).map(|_| self.leg(last)).collect(heap)?;

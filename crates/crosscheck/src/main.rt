@@ -1,5 +1,5 @@
-// Compares the planner with a second, independent implementation, on a few known cases and on networks drawn from seeds, and
-// prints what was compared and every difference.
+// Compares the planner with a second, independent implementation, on a few known cases and on networks drawn from seeds, and the
+// reading of sheets with a second reader; prints what was compared and every difference.
 #![tactic(auto)]
 
 mod cases;
@@ -8,11 +8,13 @@ mod draws;
 mod report;
 mod runs;
 mod second;
+mod sheets;
 mod tasks;
 
 use crate::cases::print_cases;
 use crate::comparing::compare_network;
 use crate::report::Report;
+use crate::sheets::compare_sheets;
 use std::io;
 
 const NETWORKS: u32 = 5_000;
@@ -23,5 +25,6 @@ fn main(rt: HostRuntime) -> io::Result<()> {
     for seed in 0..NETWORKS {
         compare_network(rt.alloc(), seed, &mut report)?;
     }
-    report.print(&rt)
+    report.print(&rt)?;
+    compare_sheets(&rt)
 }

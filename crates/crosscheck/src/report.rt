@@ -1,5 +1,6 @@
 // What was compared: how many of each kind, and every difference.
-ghost use Rattle.std.specs.Prelude.{◌≡◌, ◌+◌, ◌-◌, ◌^◌, min};
+ghost use Rattle.std.specs.Prelude.{◌≡◌, ◌+◌, ◌-◌, ◌^◌, min, OnOk};
+ghost use Rattle.crosscheck.specs.Counts.{counted, dearer_by, noted, Nothing, SameCounts};
 
 use crate::second::delay_of;
 use crate::tasks::*;
@@ -9,14 +10,11 @@ use search::record::*;
 use std::alloc::{AllocError, Global};
 use std::io;
 
-// Every kind of search, route and leg is to be met so often.
-const OFTEN: usize = 500;
-
 // A difference, and the seed of the network in which it showed.
-#[derive(Clone, Copy)]
-struct Finding {
-    seed: u32,
-    what: Difference,
+#[derive(Clone, Copy, PartialEq, Debug)]
+pub struct Finding {
+    pub seed: u32,
+    pub what: Difference,
 }
 
 // How many searches came to what.
@@ -27,6 +25,13 @@ pub struct Standings {
     out_of_labels: usize,
     out_of_entries: usize,
     open: usize,
+}
+
+// How many searches ran with each queue.
+#[derive(Clone, Copy, Default)]
+pub struct ByQueue {
+    pub heap: usize,
+    pub row: usize,
 }
 
 // How many routes are dearer for the limit than the cheapest walk; how many legs lead from a site to itself, take no time or
@@ -47,20 +52,23 @@ pub struct Report {
     pub tables: usize,
     pub searches: usize,
     pub pairs: usize,
+    pub by_queue: ByQueue,
     pub standings: Standings,
     pub shapes: Shapes,
-    findings: Vec<Finding>,
+    pub findings: Vec<Finding>,
 }
 
 // Counts so many more.
-pub fn count(tally: &mut usize, more: usize)
+pub(crate) fn count(tally: &mut usize, more: usize)
     ensures { tally.new ≡ min (tally.old + more) (2 ^ 64 - 1) }
 {
     *tally = tally.saturating_add(more);
 }
 
 impl Standings {
-    pub fn add(&mut self, standing: Standing) {
+    pub(crate) fn add(&mut self, standing: Standing)
+        ensures { self.new ≡ counted self.old standing }
+    {
         match standing {
             Standing::Found(_) => count(&mut self.found, 1),
             Standing::Exhausted => count(&mut self.exhausted, 1),
@@ -80,14 +88,23 @@ impl Standings {
     }
 }
 
+impl ByQueue {
+    fn print(&self, rt: &impl Print) -> io::Result<()> {
+        print_kind(rt, "searches with a heap", self.heap)?;
+        print_kind(rt, "searches with a row", self.row)
+    }
+}
+
 impl Shapes {
-    pub fn add_route(&mut self, cost: u64, without_limit: u64) {
+    pub(crate) fn add_route(&mut self, cost: u64, without_limit: u64)
+        ensures { self.new ≡ dearer_by cost without_limit self.old }
+    {
         if cost > without_limit {
             count(&mut self.dearer, 1);
         }
     }
 
-    pub fn add_legs(&mut self, legs: &[Leg]) {
+    pub(crate) fn add_legs(&mut self, legs: &[Leg]) {
         let loops = legs.iter().filter(|leg| leg.tail == leg.head);
         let instant = legs.iter().filter(|leg| delay_of(leg) == 0);
         let handovers = legs.iter().filter(|leg| leg.medium > 0);
@@ -112,19 +129,21 @@ impl Shapes {
     }
 }
 
-// Whether a kind was met often.
+// How often a kind was met.
 fn print_kind(rt: &impl Print, kind: &str, count: usize) -> io::Result<()> {
-    let answer = if count >= OFTEN { "yes" } else { "no" };
-    println!(rt; "{kind},at least {OFTEN},{answer}")
+    println!(rt; "{kind},{count}")
 }
 
 impl Report {
-    pub fn new(heap: Global) -> Report {
+    pub(crate) fn new(heap: Global) -> Report
+        ensures { Nothing result }
+    {
         Report {
             networks: 0,
             tables: 0,
             searches: 0,
             pairs: 0,
+            by_queue: ByQueue::default(),
             standings: Standings::default(),
             shapes: Shapes::default(),
             findings: Vec::new(heap),
@@ -132,15 +151,22 @@ impl Report {
     }
 
     // Notes a difference, if there is one.
-    pub fn note(&mut self, seed: u32, checked: Result<(), Difference>) -> Result<(), AllocError> {
+    pub(crate) fn note(
+        &mut self,
+        seed: u32,
+        checked: Result<(), Difference>,
+    ) -> Result<(), AllocError>
+        ensures noted { OnOk result (self.new.findings.items ≡ noted self.old.findings.items seed checked) }
+        ensures counts { SameCounts self.old self.new }
+    {
         if let Err(what) = checked {
             self.findings.push(Finding { seed, what })?;
         }
         Ok(())
     }
 
-    // Prints what was compared, whether every kind was met often, and every difference.
-    pub fn print(&self, rt: &impl Print) -> io::Result<()> {
+    // Prints what was compared, how often each kind was met, and every difference.
+    pub(crate) fn print(&self, rt: &impl Print) -> io::Result<()> {
         let Report {
             networks,
             tables,
@@ -149,6 +175,7 @@ impl Report {
             ..
         } = self;
         println!(rt; "networks,{networks}\nreach,{tables}\nsearches,{searches}\nqueues,{pairs}")?;
+        self.by_queue.print(rt)?;
         self.standings.print(rt)?;
         self.shapes.print(rt)?;
         print_findings(rt, &self.findings)

@@ -1,5 +1,6 @@
 // The planner, run on a question with given means.
-ghost use Rattle.std.specs.Prelude.{◌≡◌, ◌+◌, ◌*◌};
+ghost use Rattle.std.specs.Prelude.{◌≡◌, ◌-◌, ◌^◌, min};
+ghost use Rattle.crosscheck.specs.Agreement.{allowed, enough_room, enough_steps};
 
 use crate::draws::Question;
 use network::estimates::Estimate;
@@ -27,26 +28,30 @@ pub struct Outcome {
 }
 
 impl Question {
-    pub fn sites(&self) -> usize {
+    pub(crate) fn sites(&self) -> usize
+        ensures { result ≡ self.now.network.sites }
+    {
         usize::from(self.network.sites)
     }
 
     // With so many label records and entries a search is never stopped.
-    pub fn enough_room(&self) -> usize
-        ensures { result ≡ 1 + self.now.network.legs * (self.now.query.limit + 1) }
+    pub(crate) fn enough_room(&self) -> usize
+        ensures { result ≡ enough_room self.now }
     {
         1 + usize::from(self.network.legs) * (self.query.limit as usize + 1)
     }
 
     // With so many steps allowed a search has ended.
-    pub fn enough_steps(&self) -> u64
-        ensures { result ≡ 2 + self.now.network.legs * (self.now.query.limit + 1) }
+    pub(crate) fn enough_steps(&self) -> u64
+        ensures { result ≡ enough_steps self.now }
     {
         2 + u64::from(self.network.legs) * (u64::from(self.query.limit) + 1)
     }
 
     // Just the room and the steps that are enough.
-    pub fn enough(&self) -> Means {
+    pub(crate) fn enough(&self) -> Means
+        ensures { result ≡ record { labels = enough_room self.now; entries = enough_room self.now; advances = 1; allowance = min (enough_steps self.now) (2 ^ 32 - 1) } }
+    {
         let room = self.enough_room();
         Means {
             labels: room,
@@ -59,8 +64,8 @@ impl Question {
 
 impl Means {
     // The steps allowed in all.
-    pub fn allowed(&self) -> u64
-        ensures { result ≡ self.now.advances * self.now.allowance }
+    pub(crate) fn allowed(&self) -> u64
+        ensures { result ≡ allowed self.now }
     {
         u64::from(self.advances) * u64::from(self.allowance)
     }
@@ -95,7 +100,7 @@ fn advanced<Q: Queue, T: Tariff, E: Estimate>(
 }
 
 // What a search for the question comes to, on records that hold something else before.
-pub fn run<Q: Queue, T: Tariff, E: Estimate>(
+pub(crate) fn run<Q: Queue, T: Tariff, E: Estimate>(
     heap: Global,
     question: &Question,
     means: Means,

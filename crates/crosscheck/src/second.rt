@@ -4,8 +4,9 @@
 // cost of all walks from the start that end there and take exactly that long; legs are followed from every cell until no
 // cell falls. What a site's walks to a goal cost and take at the least is read off a list of all walks that enter no site twice.
 // Of the planner's code neither uses more than the plain records of legs.
-ghost use Rattle.std.specs.Prelude.{◌≡◌, ◌+◌, ◌-◌, ◌^◌, ◌≤◌, min};
+ghost use Rattle.std.specs.Prelude.{◌≡◌, ◌+◌, ◌-◌, ◌^◌, ◌≤◌, min, IfSome};
 ghost use Rattle.network.specs.Legs.{handover as handover_of, leg_delay};
+ghost use Rattle.crosscheck.specs.Agreement.{priced, WalkWith};
 ghost use Rattle.crosscheck.specs.Rates.{terms_of};
 
 use network::legs::Leg;
@@ -45,7 +46,7 @@ struct Walk {
 }
 
 impl Rate {
-    pub fn price(&self, leg: &Leg) -> u64
+    pub(crate) fn price(&self, leg: &Leg) -> u64
         ensures { result ≡ (terms_of self.now).price leg.now.fee leg.now.grade }
     {
         match self {
@@ -54,7 +55,7 @@ impl Rate {
         }
     }
 
-    pub fn join(&self, a: u64, b: u64) -> u64
+    pub(crate) fn join(&self, a: u64, b: u64) -> u64
         ensures { result ≡ (terms_of self.now).join a b }
     {
         match self {
@@ -64,7 +65,7 @@ impl Rate {
     }
 
     // What a walk comes to that goes on by a leg.
-    pub fn onward(&self, figures: Figures, leg: &Leg) -> Figures
+    pub(crate) fn onward(&self, figures: Figures, leg: &Leg) -> Figures
         ensures cost { result.cost ≡ (terms_of self.now).join figures.cost ((terms_of self.now).price leg.now.fee leg.now.grade) }
         ensures delay { result.delay ≡ min (figures.delay + leg_delay leg.now) (2 ^ 64 - 1) }
     {
@@ -85,7 +86,7 @@ fn handover(medium: u8) -> u64
 
 // The leg's delay: what is stated, and the handover delay of its medium.
 #[tactic(auto, unfolding(network::specs::Legs::leg_delay))]
-pub fn delay_of(leg: &Leg) -> u64
+pub(crate) fn delay_of(leg: &Leg) -> u64
     ensures { result ≡ leg_delay leg.now }
 {
     u64::from(leg.stated) + handover(leg.medium)
@@ -185,7 +186,7 @@ impl<'a> Graph<'a> {
     // What the cheapest walk from a start to a goal within a limit comes to, and of those the one that takes least; none where
     // there is no such walk. A walk that costs least for its end and delay needs to come to no site twice at one delay, so as
     // many rounds as there are cells are enough.
-    pub fn cheapest_within(
+    pub(crate) fn cheapest_within(
         &self,
         heap: Global,
         start: u16,
@@ -213,7 +214,7 @@ impl<'a> Graph<'a> {
 
     // The least cost and, by itself, the least delay of all walks from a site to a goal; none where there is none. No walk gets
     // cheaper or sooner by entering a site twice, and one that does not has fewer legs than there are sites.
-    pub fn nearest(
+    pub(crate) fn nearest(
         &self,
         heap: Global,
         site: u16,
@@ -236,7 +237,9 @@ impl<'a> Graph<'a> {
     }
 
     // What the legs with these numbers come to; none where they are no walk from the start to the goal.
-    pub fn walk_figures(&self, numbers: &[u16], start: u16, goal: u16) -> Option<Figures> {
+    pub(crate) fn walk_figures(&self, numbers: &[u16], start: u16, goal: u16) -> Option<Figures>
+        ensures { IfSome result (WalkWith (priced self.now) start goal numbers.now) }
+    {
         let mut site = start;
         let mut figures = Figures::default();
         for number in numbers {

@@ -1,16 +1,24 @@
 // What a search for a question should come to, and where it differs.
-ghost use Rattle.std.specs.Prelude.{◌≡◌, if◌then◌else◌, Ok, Err};
+ghost use Rattle.std.specs.Prelude.{◌≡◌, true, if◌then◌else◌, Ok, Err, OkIff, OnOk};
+ghost use Rattle.crosscheck.specs.Agreement.{figures_of, Agrees, MayStop, RouteAgrees, TablesAgree};
 
 use crate::draws::Question;
 use crate::runs::*;
 use crate::second::*;
+use network::estimates::Reached;
 use network::refusals::Stop;
 use search::record::*;
 use std::alloc::{AllocError, Global};
 use worksheet::records::*;
 
+// What reach writes for a site that is cut off.
+const CUT_OFF: Figures = Figures {
+    cost: u64::MAX,
+    delay: u32::MAX as u64,
+};
+
 // What differed.
-#[derive(Clone, Copy, Debug)]
+#[derive(Clone, Copy, PartialEq, Debug)]
 pub enum Difference {
     // The search was refused.
     Refused,
@@ -35,14 +43,16 @@ pub enum Difference {
 }
 
 // Fails by the difference, unless all is as it should be.
-pub fn ensure(agrees: bool, difference: Difference) -> Result<(), Difference>
+pub(crate) fn ensure(agrees: bool, difference: Difference) -> Result<(), Difference>
     ensures { result ≡ (if agrees then Ok tt else Err difference) }
 {
     if agrees { Ok(()) } else { Err(difference) }
 }
 
 impl From<Mark> for Figures {
-    fn from(mark: Mark) -> Figures {
+    fn from(mark: Mark) -> Figures
+        ensures { result ≡ figures_of mark }
+    {
         Figures {
             cost: mark.cost,
             delay: u64::from(mark.delay),
@@ -60,8 +70,25 @@ pub struct Task<'a> {
     pub cheapest: Option<Figures>,
 }
 
+// What reach should write of each site: what its walks to the goal cost and, by itself, take at the least.
+#[derive(Drop)]
+pub struct Nearest {
+    pub costs: Vec<u64>,
+    pub delays: Vec<u32>,
+}
+
+impl Nearest {
+    // Fails unless reach's records are these, every one.
+    pub(crate) fn check(&self, tables: &Reached) -> Result<(), Difference>
+        ensures { OkIff result (TablesAgree self.now tables.now) tt }
+    {
+        let agree = *self.costs == *tables.costs && *self.delays == *tables.delays;
+        ensure(agree, Difference::Reach)
+    }
+}
+
 impl<'a> Task<'a> {
-    pub fn new(
+    pub(crate) fn new(
         heap: Global,
         seed: u32,
         question: &'a Question,
@@ -82,13 +109,23 @@ impl<'a> Task<'a> {
         })
     }
 
-    // What the walks from a site to the goal cost and take at the least, whatever the limit.
-    pub fn nearest(&self, heap: Global, site: u16) -> Result<Option<Figures>, AllocError> {
-        self.graph.nearest(heap, site, self.question.query.goal)
+    // What reach should write, whatever the limit.
+    pub(crate) fn nearest(&self, heap: Global) -> Result<Nearest, AllocError> {
+        let goal = self.question.query.goal;
+        let mut costs = Vec::new(heap);
+        let mut delays = Vec::new(heap);
+        for site in 0..self.graph.sites {
+            let least = self.graph.nearest(heap, site, goal)?.unwrap_or(CUT_OFF);
+            costs.push(least.cost)?;
+            delays.push(u32::try_from(least.delay).unwrap_or(u32::MAX))?;
+        }
+        Ok(Nearest { costs, delays })
     }
 
     // Fails by the first difference in a route that was found.
-    fn check_route(&self, mark: Mark, route: &[u16]) -> Result<(), Difference> {
+    fn check_route(&self, mark: Mark, route: &[u16]) -> Result<(), Difference>
+        ensures { OnOk result (RouteAgrees self.now mark route.now) }
+    {
         let cheapest = self.cheapest.ok_or(Difference::Invented)?;
         let found = Figures::from(mark);
         ensure(found == cheapest, Difference::Figures)?;
@@ -98,7 +135,9 @@ impl<'a> Task<'a> {
     }
 
     // Room that is not enough is a reason to stop.
-    fn may_stop(&self, means: Means, why: Stop) -> bool {
+    fn may_stop(&self, means: Means, why: Stop) -> bool
+        ensures { result ≡ true → MayStop self.now.question.now means why }
+    {
         match why {
             Stop::Outside => false,
             Stop::LabelsUsed => means.labels < self.question.enough_room(),
@@ -107,7 +146,9 @@ impl<'a> Task<'a> {
     }
 
     // Fails by the first difference in what a search came to.
-    pub fn check(&self, means: Means, outcome: &Outcome) -> Result<(), Difference> {
+    pub(crate) fn check(&self, means: Means, outcome: &Outcome) -> Result<(), Difference>
+        ensures { OnOk result (Agrees self.now means outcome.now) }
+    {
         let steps = outcome.verdict.steps;
         let allowed = means.allowed();
         ensure(

@@ -19,8 +19,8 @@ use Rattle.worksheet.specs.declared.records.Query.{Query}
 use Rattle.worksheet.specs.Problem.{Setting}
 use Rattle.search.specs.declared.record.Standing.{Standing}
 use Rattle.search.specs.declared.record.Standing.TheVariants as standing
+use Rattle.search.specs.Record.{search_of, verdict_on}
 use Rattle.search.specs.Calls.{Worksheet, Outcome, setting, opening, advancing, tracing, traced, Traced}
-use Rattle.promise.specs.Conduct.{search_of, verdict_on}
 use Rattle.reach.specs.Reaches.{reach_refusal, Written}
 
 -- A leg, by its tail, head, fee, grade, stated delay and medium.

@@ -1,5 +1,5 @@
 -- The ways that serving a plan ends, by what the calls of the code ensure. Assumes nothing.
-use Rattle.std.proofs.Common.{◌≡◌, ℕ, ◌-◌, ◌^◌, ◌<◌, ◌≤◌, List, length, Some, None, Ok, Err, Option, Result, sym, ap, ◌∙◌, subst, arith}
+use Rattle.std.proofs.Common.{◌≡◌, ℕ, ◌-◌, ◌^◌, ◌<◌, List, length, Some, None, Ok, Err, Option, Result, sym, ap, ◌∙◌, subst, arith}
 use Rattle.network.specs.declared.plans.Plan.{Plan}
 use Rattle.network.specs.declared.refusals.Refusal.{Refusal}
 use Rattle.network.specs.Checks.{answer_by, legs_of}
@@ -11,8 +11,8 @@ use Rattle.reach.specs.Reaches.{reach_refusal, Written}
 use Rattle.worksheet.specs.declared.records.Query.{Query}
 use Rattle.worksheet.specs.Problem.{Setting, problem, asked}
 use Rattle.search.specs.declared.record.Verdict.{Verdict}
+use Rattle.search.specs.Record.{verdict_on}
 use Rattle.search.specs.Calls.{Worksheet, setting, Outcome, outcome, CostsFit, open_refusal, open_decided, opening, advancing}
-use Rattle.promise.specs.Conduct.{verdict_on}
 use Rattle.promise.proofs.Promised.{opened_on}
 use Rattle.planner.specs.declared.tally.Tally.{Tally}
 use Rattle.planner.specs.Tallies.{left_for, reduced}
@@ -84,14 +84,14 @@ module _ (g : Ground) (p : Plan) (d : Desk) where
             (subst (λ (t : Tally). Serves g p d (Ok (verdict_on v)) (desk costs delays v t)) (sym taken) (served costs delays reached u (sym opens) made v e))
 
         -- What it is told is true.
-        pub ends_fulfilled : Lawful g.terms → CostsFit (problem place q) → k < 2 ^ 64 - 1 → length v.state.bag ≤ g.capacity → Fulfils g p d x (desk costs delays v tally)
-        ends_fulfilled lawful fits small held =
+        pub ends_fulfilled : Lawful g.terms → CostsFit (problem place q) → k < 2 ^ 64 - 1 → Fulfils g p d x (desk costs delays v tally)
+        ends_fulfilled lawful fits small =
             let left = left_for d.tally p.broker in
             let accepted = (open_is_accepted place (asked p) d.sheet u (sym opens)).0 in
             let ran = advance_is_accepted place (asked p) d.sheet left v (Ok made) (advances left (Ok made) v steps) in
             let end = advanced_on place (asked p) d.sheet left in
             let count : made ≡ (run_on place (asked p) d.sheet left).made = let a = ran.0 in cc in
-            let full = fulfilled g p d costs delays lawful accepted (subst (λ (y : Query). CostsFit (problem place y)) is fits) (omega (arith, all, small)) (subst (λ (w : Worksheet). length w.state.bag ≤ g.capacity) ran.1 held) in
+            let full = fulfilled g p d costs delays lawful accepted (subst (λ (y : Query). CostsFit (problem place y)) is fits) (omega (arith, all, small)) in
             subst (λ (y : Verdict). Fulfils g p d y (desk costs delays v tally)) (sym told)
             (subst (λ (t : Tally). Fulfils g p d (verdict_on v) (desk costs delays v t)) (sym taken)
             (subst (λ n. Fulfils g p d (verdict_on v) (desk costs delays v (reduced d.tally p.broker n))) (sym count)

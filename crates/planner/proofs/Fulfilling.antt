@@ -1,32 +1,29 @@
 -- What a served plan comes to is what it is promised. Assumes nothing.
-use Rattle.std.proofs.Common.{◌≡◌, ℕ, ◌+◌, ◌-◌, ◌^◌, ◌<◌, ◌≤◌, Bool, true, false, cond, List, [], length, Some, None, Ok, Err, Option, Result, sym, refl, ap, ◌∙◌, subst, inr, arith}
+use Rattle.std.proofs.Common.{◌≡◌, ℕ, ◌+◌, ◌-◌, ◌^◌, ◌<◌, Bool, true, false, cond, List, [], length, Some, None, Ok, Err, Option, Result, sym, refl, ap, ◌∙◌, inr, arith}
 use Rattle.network.specs.declared.plans.Plan.{Plan}
 use Rattle.network.specs.declared.refusals.Refusal.{Refusal}
 use Rattle.network.specs.declared.refusals.Refusal.TheVariants as why
 use Rattle.network.specs.declared.refusals.Stop.{Stop}
-use Rattle.network.specs.declared.refusals.Stop.TheVariants.{Outside, LabelsUsed, QueueFull}
 use Rattle.network.specs.Tariffs.{Lawful}
 use Rattle.worksheet.specs.declared.records.Mark.{Mark}
 use Rattle.worksheet.specs.declared.records.Phase.{Phase}
-use Rattle.worksheet.specs.declared.records.Phase.TheVariants as phase
 use Rattle.worksheet.specs.declared.records.Query.{Query}
 use Rattle.worksheet.specs.Problem.{Setting, problem, asked}
 use Rattle.worksheet.specs.Steps.{is_open, opened}
-use Rattle.worksheet.specs.Series.{begun, Known}
+use Rattle.worksheet.specs.Series.{begun, Known, Full}
 use Rattle.search.specs.declared.record.Standing.TheVariants.{Open, Found, Stopped}
-use Rattle.search.specs.Record.{standing_of}
+use Rattle.search.specs.Record.{standing_of, search_of, verdict_on}
 use Rattle.search.specs.Calls.{Worksheet, Outcome, outcome, CostsFit, open_refusal, open_decided, opening, Run, run, run_outcome, advancing, chain_laid, traced_in, tracing}
 use Rattle.promise.specs.Promise.{Tells}
-use Rattle.promise.specs.Conduct.{search_of, verdict_on}
 use Rattle.worksheet.proofs.Ways.{not_open}
+use Rattle.worksheet.proofs.Chains.{trace_short}
 use Rattle.promise.proofs.Telling.{phase_told}
 use Rattle.promise.proofs.Running.{opened_begun, Ran, run_is_series}
 use Rattle.promise.proofs.Promised.{opened_on, found_route}
-use Rattle.promise.proofs.Underway.{Underway, RouteIs, known, tells_verdict, chain_found}
+use Rattle.promise.proofs.Underway.{Underway, RouteIs, known, tells_verdict, chain_found, full_where_stopped}
 use Rattle.planner.specs.Tallies.{left_for, reduced}
 use Rattle.planner.specs.Serves.{Ground, Desk, desk, searched}
-use Rattle.planner.specs.Fulfils.{Full, Fulfils}
-use Rattle.planner.proofs.Filling.{FilledIn, stopped_is_filled, trace_short}
+use Rattle.planner.specs.Fulfils.{Fulfils}
 
 -- The run right after an accepted open, and the worksheet after it.
 abbrev pub run_on : Setting → Query → Worksheet → ℕ → Run
@@ -69,11 +66,11 @@ module _ (g : Ground) (p : Plan) (d : Desk) (costs delays : List ℕ) (lawful : 
   abbrev end : Worksheet
   end = advanced_on place (asked p) d.sheet left
 
-  module _ (accepted : open_refusal place (asked p) ≡ None) (fits : CostsFit (problem place (asked p))) (small : left < 2 ^ 64 - 1) (held : length end.state.bag ≤ g.capacity) where
-    ran : Ran (problem place (asked p)) d.sheet.state [] 0 left 0 (run_on place (asked p) d.sheet left)
+  module _ (accepted : open_refusal place (asked p) ≡ None) (fits : CostsFit (problem place (asked p))) (small : left < 2 ^ 64 - 1) where
+    ran : Ran (problem place (asked p)) d.sheet.state [] 0 left 0 (opened (problem place (asked p)) d.sheet.state) (run_on place (asked p) d.sheet left)
     ran = run_is_series (problem place (asked p)) d.sheet.state [] left 0 0 (opened (problem place (asked p)) d.sheet.state) begun
 
-    abbrev underway : Underway place end [] left
+    abbrev underway : Underway place end left
     underway = record { tables = d.sheet.state; made = 0 + ran.more; accepted = accepted; fits = fits; labels_counted = refl; series = ran.series; all_made = λ o. omega (arith, ran.all o) }
 
     abbrev legs : List ℕ
@@ -82,11 +79,11 @@ module _ (g : Ground) (p : Plan) (d : Desk) (costs delays : List ℕ) (lawful : 
     legs_are : RouteIs end legs
     legs_are i m e = ap (λ (x : Phase). found_route end.state x) e
 
-    tells : Tells place (asked p) [] left legs (verdict_on end)
-    tells = tells_verdict place lawful end (Some (asked p)) [] left (refl, underway) legs legs_are
+    tells : Tells place (asked p) left legs (verdict_on end)
+    tells = tells_verdict place lawful end (Some (asked p)) left (refl, underway) legs legs_are
 
     knows : Known (problem place (asked p)) d.sheet.state [] (0 + ran.more) end.state
-    knows = known place lawful end [] left underway
+    knows = known place lawful end left underway
 
     -- The steps are those that were made, and they come off what was left.
     counted : end.state.steps ≡ ran.more
@@ -103,7 +100,7 @@ module _ (g : Ground) (p : Plan) (d : Desk) (costs delays : List ℕ) (lawful : 
     traces m e b =
         let x = phase_told (Found m) end.state.phase e in
         ap (λ (y : Phase). traced_in g.net g.table end.state.count end.state.labels y b) x.1
-        ∙ ap (λ (o : Option (List ℕ)). chain_laid o b) (chain_found place lawful end (Some (asked p)) [] left (refl, underway) x.0 m x.1)
+        ∙ ap (λ (o : Option (List ℕ)). chain_laid o b) (chain_found place lawful end (Some (asked p)) left (refl, underway) x.0 m x.1)
         ∙ ap (λ (js : List ℕ). chain_laid (Some js) b) (sym (legs_are x.0 m x.1))
 
     short : (m : Mark) → standing_of end.state.phase ≡ Found m → length legs < length d.sheet.state.labels
@@ -112,29 +109,22 @@ module _ (g : Ground) (p : Plan) (d : Desk) (costs delays : List ℕ) (lawful : 
         omega (arith, ap length (legs_are x.0 m x.1), trace_short end.state.labels x.0, knows.found_is_written x.0 m x.1, knows.labels_fit, knows.table_kept)
 
     -- What stopped the search is full.
-    full_by : (stop : Stop) → end.state.phase ≡ phase.Stopped stop → FilledIn (problem place (asked p)) end.state (phase.Stopped stop) → Full g.capacity end.state stop
-    full_by Outside e f = knows.never_outside e
-    full_by LabelsUsed e f = omega (arith, knows.labels_fit, f)
-    full_by QueueFull e f = omega (arith, held, f)
-
     full : (stop : Stop) → standing_of end.state.phase ≡ Stopped stop → Full g.capacity end.state stop
-    full stop e =
-        let x = phase_told (Stopped stop) end.state.phase e in
-        full_by stop x (subst (FilledIn (problem place (asked p)) end.state) x (stopped_is_filled (problem place (asked p)) d.sheet.state [] (0 + ran.more) end.state ran.series))
+    full stop e = full_where_stopped place lawful end (Some (asked p)) left (refl, underway) stop (phase_told (Stopped stop) end.state.phase e)
 
     pub fulfilled : Fulfils g p d (verdict_on end) (desk costs delays end (reduced d.tally p.broker (run_on place (asked p) d.sheet left).made))
     fulfilled = record {
       legs = legs;
-      found_is_cheapest = tells.found_is_cheapest refl;
+      found_is_cheapest = tells.found_is_cheapest;
       found_has_cost = tells.found_has_cost;
       found_has_delay = tells.found_has_delay;
       found_is_traced = traces;
       found_is_short = short;
-      exhausted_means_no_route = λ e. (tells.exhausted_means_no_route refl (inr e)).0 e;
+      exhausted_means_no_route = λ e. (tells.exhausted_means_no_route (inr e)).0 e;
       open_means_all_spent = spent;
       stopped_means_full = full;
-      enough_room_never_stops = λ room. tells.enough_room_never_stops (room.labels, room.entries);
-      enough_of_both_ends = λ room steps. tells.enough_steps_end (room.labels, room.entries) (omega (arith, steps));
+      enough_room_never_stops = tells.enough_room_never_stops;
+      enough_of_both_ends = tells.enough_of_both_ends;
       never_fresh = tells.never_fresh;
       steps_come_off = come_off;
     }

@@ -1,3 +1,2 @@
-mod Filling
 mod Fulfilling
 mod Ending

@@ -11,8 +11,8 @@ use Rattle.network.specs.Walks.{graph}
 use Rattle.reach.specs.Reaches.{reach_refusal, Written}
 use Rattle.worksheet.specs.Problem.{Setting, asked}
 use Rattle.search.specs.declared.record.Verdict.{Verdict}
+use Rattle.search.specs.Record.{verdict_on}
 use Rattle.search.specs.Calls.{Worksheet, setting, outcome, opening, advancing}
-use Rattle.promise.specs.Conduct.{verdict_on}
 use Rattle.planner.specs.declared.tally.Tally.{Tally}
 use Rattle.planner.specs.Tallies.{left_for, reduced}
 

@@ -1,5 +1,5 @@
 -- What an accepted open vouches for. Assumes nothing.
-use Rattle.std.proofs.Common.{◌≡◌, ℕ, ◌<◌, Bool, true, eqb, ltb, leb, length, get_or, Some, None, Option, sym, refl, ap, ap₂, arith}
+use Rattle.std.proofs.Common.{◌≡◌, ℕ, ◌<◌, ◌≤◌, Bool, true, eqb, ltb, leb, length, get_or, Some, None, Option, sym, refl, ap, ap₂, arith}
 use Rattle.std.proofs.lemmas.Bool.{and_parts, ltb-true, leb-true, le-leb, eqb-true}
 use Rattle.network.specs.declared.estimates.Bound.{Bound}
 use Rattle.network.specs.declared.refusals.Refusal.{Refusal}
@@ -54,14 +54,28 @@ reached (Some b) e =
     let parts = and_parts (eqb b.cost 0) (eqb b.delay 0) e in
     ap (λ (x : Bound). Some x) (ap₂ (λ c d. record { cost = c; delay = d }) (eqb-true b.cost 0 parts.0) (eqb-true b.delay 0 parts.1))
 
+-- The tables have room for a label, an entry, and a least-delay record for each site.
+record Roomy (sites labels records capacity : ℕ) : Type 0 where
+  label : 1 ≤ labels
+  entry : 1 ≤ capacity
+  sites_have_records : sites ≤ records
+
+roomy : (sites labels records capacity : ℕ) → tables_fit sites labels records capacity ≡ true → Roomy sites labels records capacity
+roomy sites labels records capacity e =
+    let some = and_parts (leb 1 labels) _ e in
+    let few = and_parts (leb labels 65536) _ some.1 in
+    let room = and_parts (leb 1 capacity) (leb sites records) few.1 in
+    record { label = leb-true _ _ some.0; entry = leb-true _ _ room.0; sites_have_records = leb-true _ _ room.1 }
+
+pub some_entry : (s : Setting) (q : Query) → open_refusal s q ≡ None → 1 ≤ s.capacity
+some_entry s q e = (roomy s.net.sites s.labels s.records s.capacity (all_passed s q e).tables).entry
+
 -- With as many label records as the setting says, what an accepted search starts from.
 pub open_accepted : (s : Setting) (q : Query) (w : State) → Lawful s.terms → open_refusal s q ≡ None → CostsFit (problem s q) → length w.labels ≡ s.labels → Accepted s.terms (problem s q) w
 open_accepted s q w lawful e fits labels =
     let tests = all_passed s q e in
     let ends = and_parts (ltb q.start s.net.sites) (ltb q.goal s.net.sites) tests.ends in
-    let some = and_parts (leb 1 s.labels) _ tests.tables in
-    let few = and_parts (leb s.labels 65536) _ some.1 in
-    let room = and_parts (leb 1 s.capacity) (leb s.net.sites s.records) few.1 in
+    let room = roomy s.net.sites s.labels s.records s.capacity tests.tables in
     record {
       tariff_is_lawful = lawful;
       prices = λ leg. refl;
@@ -74,7 +88,7 @@ open_accepted s q w lawful e fits labels =
       head_estimates_fit = fits.at_heads;
       start_is_site = ltb-true _ _ ends.0;
       legs_in_range = λ j b. tests.network.in_range j no_leg b;
-      sites_have_records = leb-true _ _ room.1;
+      sites_have_records = room.sites_have_records;
       table_is_whole = le-leb _ _ tests.network.stand;
-      some_label = omega (arith, leb-true _ _ some.0, labels);
+      some_label = omega (arith, room.label, labels);
     }

@@ -1,8 +1,7 @@
 -- Which phase a verdict tells of. Assumes nothing.
-use Rattle.std.proofs.Common.{◌≡◌, ℕ, true, refl, subst, arith}
+use Rattle.std.proofs.Common.{◌≡◌, ℕ, refl, subst}
 use Rattle.worksheet.specs.declared.records.Phase.{Phase}
 use Rattle.worksheet.specs.declared.records.Phase.TheVariants as phase
-use Rattle.worksheet.specs.Steps.{is_open}
 use Rattle.search.specs.declared.record.Standing.{Standing}
 use Rattle.search.specs.declared.record.Standing.TheVariants.{Fresh, Open, Found, Exhausted, Stopped}
 use Rattle.search.specs.Record.{standing_of}
@@ -21,7 +20,3 @@ tells_phase q = refl
 
 pub phase_told : (x : Standing) (q : Phase) → standing_of q ≡ x → IsIn x q
 phase_told x q e = subst (λ (y : Standing). IsIn y q) e (tells_phase q)
-
--- The test of a phase, told.
-pub open_told : (q : Phase) → is_open q ≡ true → q ≡ phase.Open
-open_told q e = grind arith

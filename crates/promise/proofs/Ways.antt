@@ -11,14 +11,14 @@ use Rattle.worksheet.specs.declared.records.Phase.TheVariants as phase
 use Rattle.worksheet.specs.declared.records.Query.{Query}
 use Rattle.worksheet.specs.Problem.{Setting, problem}
 use Rattle.worksheet.specs.Steps.{is_open, opened}
+use Rattle.search.specs.Record.{verdict_on}
 use Rattle.search.specs.Calls.{CostsFit, Worksheet, problem_of, Outcome, outcome, open_refusal, open_decided, Run, run, run_outcome, chain, Traced, traced, chain_laid, traced_in}
 use Rattle.promise.specs.declared.calls.Answer.{Answer}
 use Rattle.promise.specs.declared.calls.Answer.TheVariants as answer
 use Rattle.promise.specs.declared.calls.Call.{Call}
 use Rattle.promise.specs.declared.calls.Call.TheVariants as call
-use Rattle.promise.specs.Conduct.{verdict_on, Gives, Does, opens, advances, tells, traces}
-use Rattle.worksheet.proofs.Ways.{not_open}
-use Rattle.promise.proofs.Telling.{open_told}
+use Rattle.promise.specs.Conduct.{Gives, Does, opens, advances, tells, traces}
+use Rattle.worksheet.proofs.Ways.{open_told, not_open}
 
 -- The chain from the label that is found.
 abbrev pub found_chain : Setting → Worksheet → ℕ → Option (List ℕ)

@@ -1,8 +1,6 @@
 -- What a history of calls tells: the list of its events, the last first. Assumes nothing.
 use Rattle.std.specs.Prelude.{ℕ, suc, ◌+◌, Bool, true, List, [], ◌∷◌, is_ok, Some, None, Option}
-use Rattle.worksheet.specs.declared.records.Mark.{Mark}
 use Rattle.worksheet.specs.declared.records.Query.{Query}
-use Rattle.worksheet.specs.Problem.{Setting}
 use Rattle.search.specs.declared.record.Standing.TheVariants as standing
 use Rattle.search.specs.declared.record.Verdict.{Verdict}
 use Rattle.promise.specs.declared.calls.Answer.{Answer}
@@ -27,10 +25,6 @@ abbrev pub verdict_after : List Event → Verdict
 verdict_after [] = never_opened
 verdict_after (e ∷ before) = e.after
 
--- The setting after a history that began in s: no call alters it.
-abbrev pub setting_after : Setting → List Event → Setting
-setting_after s h = s
-
 -- The question after a call, accepted or not, by the question before it.
 abbrev pub question_by : Call → Bool → Option Query → Option Query
 question_by (call.Open q) true o = Some q
@@ -47,7 +41,7 @@ allowed_by (call.Open q) true n = 0
 allowed_by (call.Advance k) true n = n + k
 allowed_by c b n = n
 
--- The steps that advance was allowed in all since the last accepted open.
+-- The steps that accepted advances were allowed in all since the last accepted open.
 abbrev pub allowed : List Event → ℕ
 allowed [] = 0
 allowed (e ∷ before) = allowed_by e.call (is_accepted e.answer) (allowed before)
@@ -61,13 +55,3 @@ searches_by c b n = n
 abbrev pub searches : List Event → ℕ
 searches [] = 0
 searches (e ∷ before) = searches_by e.call (is_accepted e.answer) (searches before)
-
--- The offers after a call, by those before it.
-abbrev pub offers_by : Call → Bool → List Mark → List Mark
-offers_by (call.Open q) true os = []
-offers_by c b os = os
-
--- The offers that the search was resumed after since the last accepted open, the last first: none, as no call resumes it.
-abbrev pub offers : List Event → List Mark
-offers [] = []
-offers (e ∷ before) = offers_by e.call (is_accepted e.answer) (offers before)

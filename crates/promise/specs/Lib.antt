@@ -1,3 +1,4 @@
 pub mod History
 pub mod Promise
+pub mod Requests
 pub mod Conduct

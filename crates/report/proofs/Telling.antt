@@ -12,8 +12,8 @@ use Rattle.sheet.specs.Calls.{moved, next_of}
 use Rattle.search.specs.declared.record.Standing.{Standing}
 use Rattle.search.specs.declared.record.Standing.TheVariants.{Fresh, Open, Found, Exhausted, Stopped}
 use Rattle.search.specs.declared.record.Verdict.{Verdict}
+use Rattle.search.specs.Record.{search_of}
 use Rattle.search.specs.Calls.{traced, tracing, chain_laid}
-use Rattle.promise.specs.Conduct.{search_of}
 use Rattle.planner.specs.Serves.{Ground, Desk}
 use Rattle.planner.specs.Desks.{traced_legs}
 use Rattle.planner.specs.Fulfils.{Fulfils}

@@ -1,7 +1,6 @@
 -- How the desk of a sheet is prepared. Assumes nothing.
 use Rattle.std.specs.Prelude.{◌≡◌, length}
-use Rattle.search.specs.Record.{fresh}
-use Rattle.promise.specs.Conduct.{search_of}
+use Rattle.search.specs.Record.{fresh, search_of}
 use Rattle.planner.specs.declared.tally.Tally.{Tally}
 use Rattle.planner.specs.Serves.{Desk}
 

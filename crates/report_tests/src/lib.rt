@@ -4,7 +4,7 @@
 #[cfg(test)]
 mod tests {
     use planner::tally::Tally;
-    use report::answers::plan_from;
+    use report::answers::{plan_from, plan_sheet};
     use std::alloc::{AllocError, Global};
     use std::process::Abort;
     use std::test::Fail;
@@ -70,6 +70,46 @@ mod tests {
         )
     }
 
+    // The sheet and the answer of examples/two-brokers, which docs/BATCH.md works out.
+    #[test]
+    fn two_brokers(rt: HostRuntime) -> Result<(), Fail> {
+        let sheet =
+            b"network,8\nleg,0,2,1200,1,12,1\nleg,0,3,900,2,40,2\nleg,1,2,1500,1,9,1\nleg,1,3,700,3,55,0\nleg,2,4,2600,0,30,0\nleg,2,5,1900,2,85,3\nleg,3,5,1400,2,70,3\nleg,3,4,3100,1,22,0\nleg,4,6,800,1,6,1\nleg,4,7,1100,1,8,1\nleg,5,6,650,3,15,2\nleg,5,7,500,3,25,2\nleg,4,5,300,2,10,0\nleg,5,4,300,2,10,0\nplan,41,0,6,60\nplan,41,0,6,150\nplan,41,0,6,1000\nplan,57,1,7,75\nplan,57,1,7,200\nplan,57,1,7,40\nplan,57,7,1,1000\n";
+        let lines =
+            b"route,41,4,4600,58,0,4,8\nroute,41,5,3750,149,0,5,10\nroute,41,4,2950,169,1,6,10\nroute,57,4,5200,57,2,4,9\nroute,57,4,2600,182,3,6,11\nnone,57,1\nnone,57,1\n";
+        assert!(rt; is_answered(rt.alloc(), sheet, 50_000, lines)?);
+        Ok(())
+    }
+
+    // From site 0, 20 legs lead to site 1 and from there 24 to site 2, each dearer by 24, or by 1, and sooner by as much than the one
+    // before, so that of the 480 walks to site 2 each costs another fee, and fee and delay make 479. From there one free leg leads
+    // to site 3, too slow for the limit, and one that costs 1,000. So at each of the first 501 steps of a plan the label of another
+    // walk to site 0, 1 or 2 is taken, none of them dominated, and the next takes the goal's cheapest, of fee 1,000 and delay 479.
+    // In 99 plans 49,698 of the 50,000 steps are made. The hundredth has 302, and the next ones have none.
+    #[test]
+    fn the_whole_tally(rt: HostRuntime) -> Result<(), Fail> {
+        let heap = rt.alloc();
+        let mut sheet = Vec::from_slice(heap, b"network,4\n")?;
+        for i in 0..20u32 {
+            let (fee, delay) = (24 * i, 24 * (19 - i));
+            let leg = format!(in heap; "leg,0,1,{fee},0,{delay},0\n")?;
+            sheet.extend_from_slice(leg.as_bytes())?;
+        }
+        for fee in 0..24u32 {
+            let delay = 23 - fee;
+            let leg = format!(in heap; "leg,1,2,{fee},0,{delay},0\n")?;
+            sheet.extend_from_slice(leg.as_bytes())?;
+        }
+        sheet.extend_from_slice(b"leg,2,3,0,0,100000,0\nleg,2,3,1000,0,0,0\n")?;
+        sheet.extend_from_slice(&b"plan,7,0,3,99999\n".repeat(heap, 100)?)?;
+        sheet.extend_from_slice(b"plan,8,3,3,0\nplan,7,4,3,0\n")?;
+        let mut text = Vec::from_slice(heap, b"result,broker,steps,cost,delay,legs\n")?;
+        text.extend_from_slice(&b"route,7,502,1000,479,0,20,45\n".repeat(heap, 99)?)?;
+        text.extend_from_slice(b"open,7,302\nopen,8,0\nrefuse,6,149\n")?;
+        assert!(rt; plan_sheet(heap, &sheet)?.text == text);
+        Ok(())
+    }
+
     // Nothing follows a refusal. A plan of 65 sites finds no room; a line of the sheet is refused where it stands.
     #[test]
     fn refusals(rt: HostRuntime) -> Result<(), Fail> {
@@ -79,6 +119,13 @@ mod tests {
             &[
                 case(b"", 9, b"refuse,3,1\n"),
                 case(b"network,1\n", 9, b""),
+                case(b"network,2\nleg,0,1,1,1,1,0\n", 9, b""),
+                case(b"network,1025\nplan,1,0,0,5\n", 9, b"refuse,6,1\n"),
+                case(
+                    b"network,2\nleg,0,1,02,1,1,0\nplan,1,0,1,5\n",
+                    9,
+                    b"refuse,5,2\n",
+                ),
                 case(b"network,64\nplan,1,63,63,5\n", 9, b"route,1,1,0,0\n"),
                 case(b"network,65\nplan,1,0,0,5\n", 9, b"refuse,11,2\n"),
                 case(b"network,2\nplan,1,0,1,5", 9, b"refuse,1,2\n"),

@@ -9,8 +9,9 @@ use Rattle.network.specs.declared.legs.Leg.{Leg}
 use Rattle.network.specs.declared.legs.Network.{Network}
 use Rattle.network.specs.Checks.{legs_of}
 use Rattle.worksheet.specs.declared.records.Label.{Label}
-use Rattle.worksheet.specs.Steps.{label_at}
-use Rattle.search.specs.Parts.{leads_inside, leg_inside, all_inside, label_inside}
+use Rattle.worksheet.specs.Problem.{is_whole}
+use Rattle.worksheet.specs.Steps.{label_at, leads_inside, leg_inside, label_inside}
+use Rattle.search.specs.Parts.{all_inside}
 
 -- where all legs are inside, so are those from one site
 weaker : (b x : Bool) → x ≡ true → cond b x true ≡ true
@@ -29,5 +30,5 @@ inside_with_all records site net table all = sym (all_from_site records site (le
 -- the label that is answered, by what the code asks of it
 pub inside_by : (records : ℕ) (net : Network) (table : List Leg) (count : ℕ) (labels front : List Label) (i : ℕ) (from : Label) (b : Bool)
     → front ≡ take count labels → i < length front → from ≡ label_at front i → from.site < records → net.legs ≤ length table → b ≡ list_all (leg_inside records from.site) (legs_of net table)
-    → then_some b from ≡ label_inside records net table count labels i
+    → then_some b from ≡ label_inside records (is_whole net table) (legs_of net table) count labels i
 inside_by records net table count labels front i from b recorded written same sited whole legs = grind (arith, nat_tests, length-take, get_or-take)

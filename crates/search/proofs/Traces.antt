@@ -100,8 +100,8 @@ module _ (m n : ℕ) (labels : List Label) where
         let one_fewer : found - length so_far.legs ≡ suc (found - suc (length so_far.legs)) = omega arith in
         sym (ap (λ j. chain_from m n labels j at so_far.legs) one_fewer ∙ chain_on (found - suc (length so_far.legs)) at so_far.legs o (λ first. omega arith) e) ∙ so_far.same
 
-    pub lay_on : (o : Origin) → 0 < place → place ≤ length buffer → Some o ≡ origin_at m n labels at → Laying found o.parent (place - 1) count (set buffer (place - 1) o.leg) before
-    lay_on o more fits e =
+    pub lay_on : (o : Origin) → 0 < place → place ≤ length buffer → Some o ≡ origin_at m n labels at → (k : ℕ) → k ≡ place - 1 → Laying found o.parent (place - 1) count (set buffer k o.leg) before
+    lay_on o more fits e k is =
         let lower = below at o e in
         let next : place - 1 + 1 ≡ place = omega arith in
         let inside : place - 1 < length buffer = omega arith in
@@ -110,7 +110,7 @@ module _ (m n : ℕ) (labels : List Label) where
           long = let l = so_far.long in omega arith;
           fuel = let f = so_far.fuel in omega arith;
           same = link o e;
-          written = drop-set buffer (place - 1) o.leg inside ∙ ap (λ k. o.leg ∷ drop k buffer) next ∙ ap (λ js. o.leg ∷ js) so_far.written;
+          written = ap (λ i. drop (place - 1) (set buffer i o.leg)) is ∙ drop-set buffer (place - 1) o.leg inside ∙ ap (λ k. o.leg ∷ drop k buffer) next ∙ ap (λ js. o.leg ∷ js) so_far.written;
         }
 
     module _ (counted : Some count ≡ chain_length (whole found)) where

@@ -1,10 +1,11 @@
 -- The legs tried one by one come to the expansion of a label. Assumes nothing.
-use Rattle.std.proofs.Common.{◌≡◌, ℕ, suc, true, false, ◌&&◌, eqb, List, [], ◌∷◌, drop, refl, ap, ◌∙◌}
+use Rattle.std.proofs.Common.{◌≡◌, ℕ, suc, true, false, List, [], ◌∷◌, drop, refl, ap, ◌∙◌}
+use Rattle.std.proofs.lemmas.Bool.{cond-false}
 use Rattle.std.proofs.lemmas.Grind.{common_steps}
 use Rattle.network.specs.declared.legs.Leg.{Leg}
 use Rattle.worksheet.specs.declared.records.Label.{Label}
 use Rattle.worksheet.specs.Problem.{Setting, Problem}
-use Rattle.worksheet.specs.Steps.{State, expand, is_open, try, try_leg}
+use Rattle.worksheet.specs.Steps.{State, expand, is_open, try}
 use Rattle.search.specs.Calls.{Worksheet, problem_of}
 
 -- the loop over the legs
@@ -13,7 +14,7 @@ module _ (p : Problem) (parent : ℕ) (from : Label) where
   pub closed : (j : ℕ) (legs : List Leg) (s : State) → is_open s.phase ≡ false → expand p parent from j legs s ≡ s
   closed j [] s shut = refl
   closed j (leg ∷ more) s shut =
-      let same : try p parent from j leg s ≡ s = ap (λ b. try_leg p parent from j leg s (b && eqb leg.tail from.site)) shut in
+      let same : try p parent from j leg s ≡ s = cond-false _ _ _ shut in
       ap (expand p parent from (suc j) more) same ∙ closed (suc j) more s shut
 
 -- how far the loop has come: the search is open, what is left of the legs gives the expansion, and the queue keeps its room

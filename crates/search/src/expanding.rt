@@ -3,9 +3,9 @@ ghost use Rattle.std.specs.Prelude.{◌≡◌, ◌≤◌, true, [], length};
 ghost use Rattle.std.specs.List.{list_all};
 ghost use Rattle.network.specs.Checks.{legs_of};
 ghost use Rattle.network.specs.Walks.{graph};
-ghost use Rattle.worksheet.specs.Steps.{expand as expand_of, is_open};
+ghost use Rattle.worksheet.specs.Steps.{due_of, added, expand as expand_of, is_open, leg_inside};
 ghost use Rattle.search.specs.Calls.{setting_of, worksheet, problem_of};
-ghost use Rattle.search.specs.Parts.{due_of, leg_inside, added, settled, with_state};
+ghost use Rattle.search.specs.Parts.{with_state, in_phase_by};
 
 use crate::lent::Lent;
 use crate::record::Search;
@@ -22,13 +22,6 @@ use worksheet::records::*;
 pub(crate) struct Taken {
     pub number: usize,
     pub label: Label,
-}
-
-// A label that is due, with its estimated cost.
-#[derive(Clone, Copy)]
-pub(crate) struct Due {
-    pub label: Label,
-    pub estimate: u64,
 }
 
 impl Search {
@@ -82,7 +75,7 @@ impl Search {
         labels: &mut [Label],
         queue: &mut Q,
     ) -> Result<(), Stop>
-        ensures after { settled result (worksheet self.new labels.new [] (Q.bag queue.new)) ≡ with_state (worksheet self.old labels.old [] (Q.bag queue.old)) (added (Q.room queue.old) due (worksheet self.old labels.old [] (Q.bag queue.old)).state) }
+        ensures after { in_phase_by (λ _. self.old.phase) result (worksheet self.new labels.new [] (Q.bag queue.new)) ≡ with_state (worksheet self.old labels.old [] (Q.bag queue.old)) (added (Q.room queue.old) due (worksheet self.old labels.old [] (Q.bag queue.old)).state) }
         ensures same_phase { self.new.phase ≡ self.old.phase }
         ensures same_room { Q.room queue.new ≡ Q.room queue.old }
     {
@@ -114,7 +107,7 @@ impl Search {
     ) -> Result<(), Stop>
         requires going { is_open self.old.phase ≡ true }
         requires inside { list_all (leg_inside (length least.now) from.label.site) (legs_of lent.now.network.now lent.now.table.now) ≡ true }
-        ensures after { settled result (worksheet self.new labels.new least.now (Q.bag queue.new)) ≡ with_state (worksheet self.old labels.old least.now (Q.bag queue.old)) (expand_of (problem_of (setting_of T.terms E.at lent.now labels.old least.now (Q.room queue.old)) (worksheet self.old labels.old least.now (Q.bag queue.old))) from.number from.label 0 (legs_of lent.now.network.now lent.now.table.now) (worksheet self.old labels.old least.now (Q.bag queue.old)).state) }
+        ensures after { in_phase_by (λ _. self.old.phase) result (worksheet self.new labels.new least.now (Q.bag queue.new)) ≡ with_state (worksheet self.old labels.old least.now (Q.bag queue.old)) (expand_of (problem_of (setting_of T.terms E.at lent.now labels.old least.now (Q.room queue.old)) (worksheet self.old labels.old least.now (Q.bag queue.old))) from.number from.label 0 (legs_of lent.now.network.now lent.now.table.now) (worksheet self.old labels.old least.now (Q.bag queue.old)).state) }
         ensures same_phase { self.new.phase ≡ self.old.phase }
         ensures same_room { Q.room queue.new ≡ Q.room queue.old }
     {

@@ -1,6 +1,9 @@
 // Whether a number that a step uses leads outside its table.
 ghost use Rattle.std.specs.Prelude.{◌≡◌};
-ghost use Rattle.search.specs.Parts.{leads_inside, leg_inside, all_inside, label_inside};
+ghost use Rattle.network.specs.Checks.{legs_of};
+ghost use Rattle.worksheet.specs.Problem.{is_whole};
+ghost use Rattle.worksheet.specs.Steps.{leads_inside, leg_inside, label_inside};
+ghost use Rattle.search.specs.Parts.{all_inside};
 
 use crate::lent::Lent;
 use crate::record::Search;
@@ -44,7 +47,7 @@ impl Search {
         records: usize,
     ) -> Option<Label>
         requires { sound ≡ all_inside records lent.now.network.now lent.now.table.now }
-        ensures { result ≡ label_inside records lent.now.network.now lent.now.table.now self.now.count labels.now i }
+        ensures { result ≡ label_inside records (is_whole lent.now.network.now lent.now.table.now) (legs_of lent.now.network.now lent.now.table.now) self.now.count labels.now i }
     {
         let label = *self.recorded(labels).get(i)?;
         let legs = lent.table.get(..usize::from(lent.network.legs))?;

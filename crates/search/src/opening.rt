@@ -8,9 +8,8 @@ ghost use Rattle.worksheet.specs.Steps.{opened};
 ghost use Rattle.search.specs.Calls.{setting, setting_of, worksheet, outcome, ends_fit, tables_fit, is_reached, open_refusal, opening, CostFits, HeadCostsFit, CostsFit};
 ghost use Rattle.search.specs.Numbers.{NoneApplies, RefusedBy};
 
-use crate::expanding::Due;
 use crate::lent::Lent;
-use crate::record::Search;
+use crate::record::{Action, Search};
 use network::estimates::{Bound, Estimate};
 use network::legs::*;
 use network::limits::MOST_LIMIT;
@@ -19,6 +18,7 @@ use network::tariffs::Tariff;
 use queue::interface::Queue;
 use worksheet::records::*;
 
+// How many label records a search may have at the most.
 const MOST_LABELS: usize = 65_536;
 
 // Start and goal are sites of the network.
@@ -68,7 +68,7 @@ fn first_unlawful<T: Tariff, E: Estimate>(legs: &[Leg], tariff: &T, estimate: &E
 
 // Refuses an open by the first test that fails.
 #[tactic(auto, using(network::proofs::Checking::test_by_test), unfolding(crate::specs::Calls::open_refusal))]
-fn admit<Q: Queue, T: Tariff, E: Estimate>(
+fn check<Q: Queue, T: Tariff, E: Estimate>(
     query: Query,
     lent: &Lent<T, E>,
     labels: &[Label],
@@ -160,13 +160,14 @@ impl Search {
             (λ why. RefusedBy (setting network.now table.now (T.terms tariff.now) (E.at estimate.now) labels.old least.old (Q.room queue.old)) query why) }
         ensures estimates_fit { OnOk result (CostsFit (problem (setting network.now table.now (T.terms tariff.now) (E.at estimate.now) labels.old least.old (Q.room queue.old)) query)) }
     {
+        self.admit(Action::Open)?;
         let lent = Lent {
             network,
             table,
             tariff,
             estimate,
         };
-        admit(query, &lent, labels, least, queue)?;
+        check(query, &lent, labels, least, queue)?;
         self.start(query, &lent, labels, least, queue);
         Ok(())
     }

@@ -1,8 +1,8 @@
 // The search record, and what it tells.
 ghost use Rattle.std.specs.Prelude.{◌≡◌, take};
-ghost use Rattle.search.specs.Record.{fresh, is_open_in, standing_of, verdict_of};
+ghost use Rattle.search.specs.Record.{fresh, is_open_in, admission, standing_of, verdict_of};
 
-use network::refusals::Stop;
+use network::refusals::{Refusal, Stop};
 use worksheet::records::*;
 
 // What a search is asked, how far it has come, how many labels it has written, and how many steps it has made since it was
@@ -30,6 +30,14 @@ pub enum Standing {
 pub struct Verdict {
     pub standing: Standing,
     pub steps: u64,
+}
+
+// The calls that a phase admits or refuses.
+#[derive(Clone, Copy)]
+pub(crate) enum Action {
+    Open,
+    Advance,
+    Trace,
 }
 
 // A phase, without the number of the label that was found.
@@ -60,6 +68,19 @@ impl Search {
         ensures { result.now ≡ take self.now.count labels.now }
     {
         &labels[..self.count.min(labels.len())]
+    }
+
+    // Whether the phase admits a call: every phase an open, an open search an advance, a found label a trace.
+    pub(crate) fn admit(&self, action: Action) -> Result<(), Refusal>
+        ensures { result ≡ admission self.now.phase action }
+    {
+        match (self.phase, action) {
+            (_, Action::Open) => Ok(()),
+            (Phase::Open, Action::Advance) => Ok(()),
+            (_, Action::Advance) => Err(Refusal::NotOpen),
+            (Phase::Found(_, _), Action::Trace) => Ok(()),
+            (_, Action::Trace) => Err(Refusal::NotFound),
+        }
     }
 
     // Whether steps can be made.

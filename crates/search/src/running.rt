@@ -4,7 +4,7 @@ ghost use Rattle.search.specs.Calls.{setting, worksheet, outcome, advancing};
 
 use crate::inside::all_inside;
 use crate::lent::Lent;
-use crate::record::Search;
+use crate::record::{Action, Search};
 use network::estimates::Estimate;
 use network::legs::*;
 use network::refusals::Refusal;
@@ -30,9 +30,7 @@ impl Search {
         ensures answered { outcome result (worksheet self.new labels.new least.new (Q.bag queue.new)) ≡ advancing (setting network.now table.now (T.terms tariff.now) (E.at estimate.now) labels.old least.old (Q.room queue.old)) allowance (worksheet self.old labels.old least.old (Q.bag queue.old)) }
         ensures same_room { Q.room queue.new ≡ Q.room queue.old }
     {
-        if !self.is_open() {
-            return Err(Refusal::NotOpen);
-        }
+        self.admit(Action::Advance)?;
         let sound = all_inside(network, table, least.len());
         let lent = Lent {
             network,

@@ -47,7 +47,7 @@ impl Search {
     ) -> Result<Phase, Stop>
         requires going { is_open self.old.phase ≡ true }
         requires asked { sound ≡ all_inside (length least.old) lent.now.network.now lent.now.table.now }
-        ensures after { in_phase_by result (worksheet self.new labels.new least.new (Q.bag queue.new)) ≡ with_state (worksheet self.old labels.old least.old (Q.bag queue.old)) (step_from (problem_of (setting_of T.terms E.at lent.now labels.old least.old (Q.room queue.old)) (worksheet self.old labels.old least.old (Q.bag queue.old))) (Q.bag queue.old) (worksheet self.old labels.old least.old (Q.bag queue.old)).state) }
+        ensures after { in_phase_by (λ phase. phase) result (worksheet self.new labels.new least.new (Q.bag queue.new)) ≡ with_state (worksheet self.old labels.old least.old (Q.bag queue.old)) (step_from (problem_of (setting_of T.terms E.at lent.now labels.old least.old (Q.room queue.old)) (worksheet self.old labels.old least.old (Q.bag queue.old))) (Q.bag queue.old) (worksheet self.old labels.old least.old (Q.bag queue.old)).state) }
         ensures same_phase { self.new.phase ≡ self.old.phase }
         ensures same_room { Q.room queue.new ≡ Q.room queue.old }
     {

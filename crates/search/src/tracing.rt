@@ -3,7 +3,7 @@ ghost use Rattle.std.specs.Prelude.{◌≡◌, ◌≤◌, length, Some};
 ghost use Rattle.search.specs.Calls.{origin_at, traced, tracing};
 ghost use Rattle.search.specs.Parts.{chain_of, chain_length as length_of, laid};
 
-use crate::record::Search;
+use crate::record::{Action, Search};
 use network::legs::*;
 use network::refusals::Refusal;
 use worksheet::records::*;
@@ -69,8 +69,10 @@ impl Search {
     ) -> Result<usize, Refusal>
         ensures { traced result buffer.new ≡ tracing network.now table.now self.now labels.now buffer.old }
     {
+        self.admit(Action::Trace)?;
+        // No other phase admits a trace.
         let Phase::Found(found, _) = self.phase else {
-            return Err(Refusal::NotFound);
+            unreachable!()
         };
         let chain = Chain {
             labels: self.recorded(labels),

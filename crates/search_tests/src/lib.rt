@@ -3,6 +3,8 @@
 
 #[cfg(test)]
 mod desks;
+#[cfg(test)]
+mod worksheets;
 
 #[cfg(test)]
 mod tests {
@@ -17,6 +19,7 @@ mod tests {
     use queues::heap::Heap;
     use queues::row::Row;
     use search::record::*;
+    use std::alloc::{AllocError, Global};
     use std::process::Abort;
     use std::test::Fail;
     use worksheet::records::*;
@@ -253,70 +256,75 @@ mod tests {
         Ok(())
     }
 
-    // Small networks that tell readings apart, with the blank estimate.
-    // - A leg from a site to itself that is free and takes no time: its label is never below the record of its site.
-    // - Parallel legs of one fee: the soonest comes first.
-    // - Parallel legs, one cheaper and one sooner: both labels at site 1 count, as only the dearer one keeps the limit.
-    // - Parallel legs of one delay: the dearer label is taken up third, and dropped.
+    // The search from 0 to `goal` in a network of these legs, with the blank estimate.
+    fn search_among(
+        rt: &impl Abort,
+        heap: Global,
+        network: Network,
+        table: &[Leg],
+        goal: u16,
+        limit: u32,
+    ) -> Result<Found, Fail> {
+        let mut row = Row::new(heap, 8)?;
+        search_in(
+            rt,
+            network,
+            table,
+            query(goal, limit),
+            &mut row,
+            &TotalFee,
+            &Blank,
+            8,
+        )
+    }
+
+    // Networks that tell readings apart. In the comments on them, 2 (1: 3, 1) is label 2, at site 1, with the cost 3 and the delay 1.
+    // Each step takes one label, the first one 0 (0: 0, 0).
+
+    // A free leg from a site to itself takes no time: by it site 0 would have the delay 0 again, which is not below its record. So
+    // 1 (1: 1, 1) is the only label written, and the second step takes it, at the goal.
     #[test]
-    fn telling_networks(rt: HostRuntime) -> Result<(), Fail> {
-        let mut row = Row::new(rt.alloc(), 8)?;
-        let loops = [leg(0, 0, 0, 0, 0), leg(0, 1, 1, 0, 1)];
-        let two = Network { sites: 2, legs: 2 };
+    fn a_leg_that_stays(rt: HostRuntime) -> Result<(), Fail> {
+        let table = [leg(0, 0, 0, 0, 0), leg(0, 1, 1, 0, 1)];
         assert_eq!(rt;
-            search_in(
-                &rt,
-                two,
-                &loops,
-                query(1, 1),
-                &mut row,
-                &TotalFee,
-                &Blank,
-                8
-            )?,
+            search_among(&rt, rt.alloc(), Network { sites: 2, legs: 2 }, &table, 1, 1)?,
             route(1, 1, 2, 2, 1, [1, 9, 9])
         );
-        let equal_fees = [leg(0, 1, 1, 0, 3), leg(0, 1, 1, 0, 2)];
+        Ok(())
+    }
+
+    // Parallel legs of one fee: 1 (1: 1, 3) and 2 (1: 1, 2) are written, as site 1 has been taken by neither. The second step takes
+    // the sooner one, 2, at the goal.
+    #[test]
+    fn parallel_legs_of_one_fee(rt: HostRuntime) -> Result<(), Fail> {
+        let table = [leg(0, 1, 1, 0, 3), leg(0, 1, 1, 0, 2)];
         assert_eq!(rt;
-            search_in(
-                &rt,
-                two,
-                &equal_fees,
-                query(1, 5),
-                &mut row,
-                &TotalFee,
-                &Blank,
-                8,
-            )?,
+            search_among(&rt, rt.alloc(), Network { sites: 2, legs: 2 }, &table, 1, 5)?,
             route(1, 2, 2, 3, 1, [1, 9, 9])
         );
-        let three = Network { sites: 3, legs: 3 };
-        let parallel = [leg(0, 1, 1, 0, 3), leg(0, 1, 3, 0, 1), leg(1, 2, 1, 0, 2)];
+        Ok(())
+    }
+
+    // Parallel legs, one cheaper and one sooner: 1 (1: 1, 3) and 2 (1: 3, 1). The second step takes 1, from which site 2 would be
+    // reached at 5, beyond the limit 4. The third takes 2, whose delay is below that of 1, and writes 3 (2: 4, 3), which the fourth
+    // takes.
+    #[test]
+    fn a_dearer_and_sooner_leg(rt: HostRuntime) -> Result<(), Fail> {
+        let table = [leg(0, 1, 1, 0, 3), leg(0, 1, 3, 0, 1), leg(1, 2, 1, 0, 2)];
         assert_eq!(rt;
-            search_in(
-                &rt,
-                three,
-                &parallel,
-                query(2, 4),
-                &mut row,
-                &TotalFee,
-                &Blank,
-                8,
-            )?,
+            search_among(&rt, rt.alloc(), Network { sites: 3, legs: 3 }, &table, 2, 4)?,
             route(4, 3, 4, 4, 2, [1, 2, 9])
         );
-        let equal_delays = [leg(0, 1, 1, 0, 2), leg(0, 1, 2, 0, 2), leg(1, 2, 9, 0, 1)];
+        Ok(())
+    }
+
+    // Parallel legs of one delay: 1 (1: 1, 2) and 2 (1: 2, 2). The second step takes 1 and writes 3 (2: 10, 3). The third takes 2 and
+    // drops it, as its delay is not below that of 1. The fourth takes 3.
+    #[test]
+    fn parallel_legs_of_one_delay(rt: HostRuntime) -> Result<(), Fail> {
+        let table = [leg(0, 1, 1, 0, 2), leg(0, 1, 2, 0, 2), leg(1, 2, 9, 0, 1)];
         assert_eq!(rt;
-            search_in(
-                &rt,
-                three,
-                &equal_delays,
-                query(2, 9),
-                &mut row,
-                &TotalFee,
-                &Blank,
-                8,
-            )?,
+            search_among(&rt, rt.alloc(), Network { sites: 3, legs: 3 }, &table, 2, 9)?,
             route(10, 3, 4, 4, 2, [0, 2, 9])
         );
         Ok(())
@@ -333,28 +341,28 @@ mod tests {
         told.map_err(|why| why.number())
     }
 
-    // A list of calls on one worksheet, refused ones among them.
-    #[test]
-    fn a_list_of_calls(rt: HostRuntime) -> Result<(), Fail> {
-        let heap = rt.alloc();
+    // A list of calls, refused ones among them.
+    fn calls(heap: Global) -> Result<Vec<Request>, AllocError> {
+        Ok(vec![in heap;
+            Request::Advance(1),
+            Request::Trace(vec![in heap; 0; 5]?),
+            Request::Open(query(3, 9)),
+            Request::Advance(2),
+            Request::Advance(9),
+            Request::Trace(vec![in heap; 0; 1]?),
+            Request::Trace(vec![in heap; 0; 5]?),
+            Request::Open(query(4, 9)),
+            Request::Verdict,
+        ]?)
+    }
+
+    // Makes these calls on one worksheet, in network A.
+    fn conduct_calls(heap: Global, events: &mut Vec<Event>) -> Result<(), Fail> {
         let mut queue = Heap::new(heap, 3)?;
         let mut labels = [stale(); 5];
         let mut least = [7; 4];
-        let mut events = Vec::new(heap);
-        let calls = [
-            Call::Advance(1),
-            Call::Trace(5),
-            Call::Open(query(3, 9)),
-            Call::Advance(2),
-            Call::Advance(9),
-            Call::Trace(1),
-            Call::Trace(5),
-            Call::Open(query(4, 9)),
-            Call::Verdict,
-        ];
         conduct(
-            heap,
-            &calls,
+            calls(heap)?,
             &network_a(),
             &legs_a(),
             &mut labels,
@@ -362,24 +370,48 @@ mod tests {
             &mut queue,
             &TotalFee,
             &nearest(),
-            &mut events,
+            events,
         )?;
+        Ok(())
+    }
+
+    // What each of them is due, and the verdict after it.
+    fn due() -> [(Call, Result<usize, u8>, Standing, u64); 9] {
         let found = Standing::Found(Mark { cost: 4, delay: 9 });
-        let due = [
-            (Err(13), Standing::Fresh, 0),
-            (Err(14), Standing::Fresh, 0),
-            (Ok(0), Standing::Open, 0),
-            (Ok(2), Standing::Open, 2),
-            (Ok(1), found, 3),
-            (Err(18), found, 3),
-            (Ok(2), found, 3),
-            (Err(10), found, 3),
-            (Ok(0), found, 3),
-        ];
-        assert_eq!(rt; events.len(), due.len());
-        for (event, (answer, standing, steps)) in events.iter().zip(due) {
-            assert_eq!(rt; told(&event.answer), answer);
-            assert_eq!(rt; event.after, Verdict { standing, steps });
+        [
+            (Call::Advance(1), Err(13), Standing::Fresh, 0),
+            (Call::Trace(5), Err(14), Standing::Fresh, 0),
+            (Call::Open(query(3, 9)), Ok(0), Standing::Open, 0),
+            (Call::Advance(2), Ok(2), Standing::Open, 2),
+            (Call::Advance(9), Ok(1), found, 3),
+            (Call::Trace(1), Err(18), found, 3),
+            (Call::Trace(5), Ok(2), found, 3),
+            (Call::Open(query(4, 9)), Err(10), found, 3),
+            (Call::Verdict, Ok(0), found, 3),
+        ]
+    }
+
+    // The events are as due, in a vector that has no room for them, and in one that has room and held others before; that one
+    // keeps its capacity.
+    #[test]
+    fn a_list_of_calls(rt: HostRuntime) -> Result<(), Fail> {
+        let heap = rt.alloc();
+        let mut without_room = Vec::new(heap);
+        conduct_calls(heap, &mut without_room)?;
+        let mut with_room = Vec::with_capacity(heap, 9)?;
+        conduct_calls(heap, &mut with_room)?;
+        conduct_calls(heap, &mut with_room)?;
+        assert_eq!(rt; with_room.capacity(), 9);
+        for events in [&without_room, &with_room] {
+            assert_eq!(rt; events.len(), 9);
+            for (event, (call, answer, standing, steps)) in events.iter().zip(due()) {
+                assert_eq!(rt; event.call, call);
+                assert_eq!(rt; told(&event.answer), answer);
+                assert_eq!(rt; event.after, Verdict { standing, steps });
+                if let Answer::Traced(Ok(legs)) = &event.answer {
+                    assert_eq!(rt; legs.as_slice(), [0, 1].as_slice());
+                }
+            }
         }
         Ok(())
     }

@@ -2,7 +2,8 @@
 // Of a sound sheet it then tells, plan by plan, the least that a route can cost and take.
 #![tactic(auto)]
 
-ghost use Rattle.std.specs.Prelude.{◌≡◌, ℕ, ◌<◌, Some, IfSome, IfOk, string_bytes};
+ghost use Rattle.std.specs.Prelude.{◌≡◌, ℕ, ◌<◌, List, Some, IfSome, IfOk, OnOk, string_bytes};
+ghost use Rattle.std.specs.Io.KnownBytes.{Appends};
 ghost use Rattle.network.specs.Checks.{legs_of};
 ghost use Rattle.network.specs.Estimates.{tables_at};
 ghost use Rattle.network.specs.Tariffs.{total_fee};
@@ -180,12 +181,19 @@ fn report(heap: Global, sheet: &[u8]) -> Result<Findings, AllocError>
     Ok(Findings { text, answer })
 }
 
-fn run<R: Read + Drop>(rt: &(impl Print + Eprint + AllocGlobal), mut input: R) -> io::Result<()> {
+// Reads all of the input as a sheet, and writes what it has, or its first refusal.
+fn run<R: Read + Drop, W: io::Write>(
+    rt: &(impl Eprint + AllocGlobal),
+    mut input: R,
+    output: &mut W,
+) -> io::Result<()>
+    ensures { OnOk result (IfSome (R.remaining input) (λ bytes. (text : List ℕ) × Tells (checked 4096 bytes) text × Appends (W.contents output.old) (W.contents output.new) text)) }
+{
     let heap = rt.alloc();
     let mut sheet = Vec::new(heap);
     input.read_to_end(&mut sheet)?;
     let report = report(heap, &sheet)?;
-    rt.print(report.text.as_str())?;
+    output.write_all(report.text.as_bytes())?;
     if let Err(refusal) = report.answer {
         let line = line_at_fault(&refusal);
         let advice = advice(&refusal);
@@ -195,5 +203,5 @@ fn run<R: Read + Drop>(rt: &(impl Print + Eprint + AllocGlobal), mut input: R) -
 }
 
 fn main(rt: HostRuntime) -> io::Result<()> {
-    run(&rt, rt.stdin())
+    run(&rt, rt.stdin(), &mut io::writer(&rt))
 }

@@ -1,5 +1,5 @@
 -- Every label stands for the walk that its parents tell. Assumes nothing.
-use Rattle.std.proofs.Common.{◌≡◌, ℕ, zero, suc, ◌<◌, ◌≤◌, List, [], ◌∷◌, ◌++◌, length, get_or, set, Some, None, Option, sym, refl, ap, ◌∙◌, subst, ⊎_elim, append_assoc, arith, length-append, length-set, get_or-set_other, get_or-set_same}
+use Rattle.std.proofs.Common.{◌≡◌, ℕ, zero, suc, ◌+◌, ◌<◌, ◌≤◌, List, [], ◌∷◌, ◌++◌, length, get_or, set, Some, None, Option, sym, refl, ap, ◌∙◌, subst, ⊎_elim, append_assoc, arith, length-append, length-set, get_or-set_other, get_or-set_same}
 use lib.Seq.{get_or-append_seam}
 use Rattle.std.proofs.lemmas.Bool.{cases_lt}
 use Rattle.network.specs.declared.legs.Leg.{Leg}
@@ -7,10 +7,11 @@ use Rattle.network.specs.Walks.{Graph, no_leg, leg_at, Walk}
 use Rattle.worksheet.specs.declared.records.Label.{Label}
 use Rattle.worksheet.specs.declared.records.Mark.{Mark}
 use Rattle.worksheet.specs.declared.records.Origin.{Origin}
-use Rattle.worksheet.specs.Problem.{Problem, nothing, extend, finish}
+use Rattle.worksheet.specs.Problem.{Problem, nothing, extend}
 use Rattle.worksheet.specs.Steps.{State, no_label, label_at, child, try, expand}
 use Rattle.worksheet.specs.Traces.{traced, trace}
 use Rattle.worksheet.specs.Series.{Linked}
+use Rattle.worksheet.proofs.Marks.{finish}
 use Rattle.worksheet.proofs.Ways.{Tried, wrote, tried}
 
 -- The list has the graph's legs from number j on.
@@ -102,6 +103,15 @@ module _ (p : Problem) (ls : List Label) (n : ℕ) (c : Chained p ls n) (v : ℕ
   pub trace_leads : (i : ℕ) → i < n → (label_at ls i).site ≡ v → Leads p v (label_at ls i).mark [] (trace ls i)
   trace_leads i b e = traced_leads i i (label_at ls i).from (omega arith) b (c i b) [] e
 
+-- A traced walk has no more legs than there are labels before its last.
+traced_short : (ls : List Label) (fuel : ℕ) (o : Option Origin) (js : List ℕ) → length (traced ls fuel o js) ≤ fuel + length js
+traced_short ls zero o js = omega arith
+traced_short ls (suc fuel) None js = omega arith
+traced_short ls (suc fuel) (Some o) js = omega (arith, traced_short ls fuel (label_at ls o.parent).from (o.leg ∷ js))
+
+pub trace_short : (ls : List Label) (i : ℕ) → length (trace ls i) ≤ i
+trace_short ls i = omega (arith, traced_short ls i (label_at ls i).from [])
+
 -- While label i, which is l, is expanded: all labels stay chained.
 pub record Expanding (p : Problem) (i : ℕ) (l : Label) (ls : List Label) (n : ℕ) : Type 0 where
   pub below : i < n
@@ -110,13 +120,13 @@ pub record Expanding (p : Problem) (i : ℕ) (l : Label) (ls : List Label) (n : 
   pub chained : Chained p ls n
 
 try_chained : (p : Problem) (i : ℕ) (l : Label) (j : ℕ) (s t : State) → j < length p.graph.legs → Tried p i l j (leg_at p.graph j) s t → Expanding p i l s.labels s.count → Expanding p i l t.labels t.count
-try_chained p i l j s t h (wrote q d x) k =
+try_chained p i l j s t h (wrote q d x y) k =
     let leg = leg_at p.graph j in
     record {
       below = omega (arith, k.below);
-      fits = omega (arith, length-set s.labels s.count (child p i l j leg));
-      is = label_kept s.labels s.count (child p i l j leg) i k.below ∙ k.is;
-      chained = chained_more p s.labels s.count (child p i l j leg) x k.chained
+      fits = omega (arith, length-set s.labels s.count (child p.graph i l j leg));
+      is = label_kept s.labels s.count (child p.graph i l j leg) i k.below ∙ k.is;
+      chained = chained_more p s.labels s.count (child p.graph i l j leg) x k.chained
           (record {
             below = k.below;
             is_leg = h;

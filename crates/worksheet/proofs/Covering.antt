@@ -8,10 +8,10 @@ use Rattle.queue.specs.declared.entry.Entry.{Entry}
 use Rattle.queue.specs.Bag.{Rising}
 use Rattle.worksheet.specs.declared.records.Label.{Label}
 use Rattle.worksheet.specs.declared.records.Mark.{Mark}
-use Rattle.worksheet.specs.Problem.{Problem, extend, finish}
+use Rattle.worksheet.specs.Problem.{Problem, extend}
 use Rattle.worksheet.specs.Steps.{State, label_at}
 use Rattle.worksheet.specs.Series.{Accepted, Covers}
-use Rattle.worksheet.proofs.Marks.{covers_through, costs, extend_small, extend_ordered, finish_more, finish_ordered}
+use Rattle.worksheet.proofs.Marks.{finish, covers_through, costs, extend_small, extend_ordered, finish_more, finish_ordered}
 use Rattle.worksheet.proofs.Estimates.{Hopeless, Sooner, Ranked}
 
 -- A label that was taken and not dropped, with its entry's estimated cost.

@@ -8,10 +8,10 @@ use Rattle.network.specs.Estimates.{nothing_left, ends_keep_rules}
 use Rattle.network.specs.Tariffs.{Terms}
 use Rattle.network.specs.Walks.{Graph, leg_at, Walk}
 use Rattle.worksheet.specs.declared.records.Mark.{Mark}
-use Rattle.worksheet.specs.Problem.{Problem, extend, finish}
+use Rattle.worksheet.specs.Problem.{Problem, extend}
 use Rattle.worksheet.specs.Steps.{State}
 use Rattle.worksheet.specs.Series.{Accepted}
-use Rattle.worksheet.proofs.Marks.{costs, extend_small, extend_more}
+use Rattle.worksheet.proofs.Marks.{finish, costs, extend_small, extend_more}
 
 -- Of one estimate there is one answer.
 pub same_some : {A : Type 0} (o : Option A) (x y : A) → o ≡ Some x → o ≡ Some y → x ≡ y

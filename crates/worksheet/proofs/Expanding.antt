@@ -9,11 +9,12 @@ use Rattle.network.specs.Walks.{leg_at}
 use Rattle.network.proofs.Ranges.{ranges}
 use Rattle.queue.specs.declared.entry.Entry.{Entry}
 use Rattle.queue.proofs.Bags.{has_insert_new, has_insert_old, rising_insert}
+use Rattle.worksheet.specs.declared.records.Due.{Due}
 use Rattle.worksheet.specs.declared.records.Label.{Label}
 use Rattle.worksheet.specs.declared.records.Mark.{Mark}
 use Rattle.worksheet.specs.declared.records.Phase.TheVariants.{Open}
 use Rattle.worksheet.specs.Problem.{Problem, extend}
-use Rattle.worksheet.specs.Steps.{State, no_label, label_at, entry_of, write, child, try, expand}
+use Rattle.worksheet.specs.Steps.{State, no_label, label_at, entry_of, write, child, estimated, try, expand}
 use Rattle.worksheet.specs.Series.{Accepted}
 use Rattle.worksheet.proofs.Members.{has_none, each_cons, each_insert}
 use Rattle.worksheet.proofs.Marks.{covers_itself, costs, extend_small}
@@ -44,11 +45,11 @@ handled_kept p s t done k v m (hopeless q) = hopeless q
 handled_kept p s t done k v m (covered x at site c) = covered x at site c
 handled_kept p s t done k v m (waiting e at below site c) = let h = k e at below in waiting e h.at h.below (ap (λ (l : Label). l.site) h.label ∙ site) c
 
-write_keeps : (p : Problem) (l : Label) (h : Bound) (s : State) → Keeps s (write p l h s)
-write_keeps p l h s e at below = record { at = has_insert_old (entry_of p s.count l h) s.bag e at; below = omega arith; label = label_kept s.labels s.count l e.label below }
+write_keeps : (d : Due) (s : State) → Keeps s (write d s)
+write_keeps d s e at below = record { at = has_insert_old (entry_of s.count d) s.bag e at; below = omega arith; label = label_kept s.labels s.count d.label e.label below }
 
 try_keeps : (p : Problem) (i : ℕ) (l : Label) (j : ℕ) (leg : Leg) (s t : State) → Tried p i l j leg s t → Keeps s t
-try_keeps p i l j leg s t (wrote h d x) e at below = write_keeps p (child p i l j leg) h s e at below
+try_keeps p i l j leg s t (wrote h d x r) e at below = write_keeps _ s e at below
 try_keeps p i l j leg s t way e at below = record { at = at; below = below; label = refl }
 
 pub expand_keeps : (p : Problem) (i : ℕ) (l : Label) (j : ℕ) (legs : List Leg) (s : State) → Keeps s (expand p i l j legs s)
@@ -69,19 +70,19 @@ sound_kept p ls n x e h =
     let same : label_at (set ls n x) e.label ≡ label_at ls e.label = label_kept ls n x e.label h.below in
     record { below = omega (arith, h.below); mark = rw same h.mark; ranked = rw same h.ranked; within = h.within; place = rw same h.place }
 
-pub write_fair : (p : Problem) (l : Label) (h : Bound) (s : State) (done : List Settled) → s.count < length s.labels → Ranked p l.site l.mark.cost (p.graph.join l.mark.cost h.cost) → l.mark.delay ≤ p.limit → l.site < p.sites
-    → AllSooner (p.graph.join l.mark.cost h.cost) l.mark.cost done → FairIn p s done → FairIn p (write p l h s) done
-write_fair p l h s done room ranked within place later f = record {
-  sound = each_insert (Sound p (set s.labels s.count l) (suc s.count)) (entry_of p s.count l h) s.bag new (λ e at. sound_kept p s.labels s.count l e (f.sound e at));
-  rising = rising_insert (entry_of p s.count l h) s.bag f.rising;
+pub write_fair : (p : Problem) (d : Due) (s : State) (done : List Settled) → s.count < length s.labels → Ranked p d.label.site d.label.mark.cost d.estimate → d.label.mark.delay ≤ p.limit → d.label.site < p.sites
+    → AllSooner d.estimate d.label.mark.cost done → FairIn p s done → FairIn p (write d s) done
+write_fair p d s done room ranked within place later f = record {
+  sound = each_insert (Sound p (set s.labels s.count d.label) (suc s.count)) (entry_of s.count d) s.bag new (λ e at. sound_kept p s.labels s.count d.label e (f.sound e at));
+  rising = rising_insert (entry_of s.count d) s.bag f.rising;
   ranked = f.ranked;
-  order = λ x at. each_insert (λ e. Sooner x.estimate x.mark.cost e.estimate e.cost) (entry_of p s.count l h) s.bag (later x at) (f.order x at);
+  order = λ x at. each_insert (λ e. Sooner x.estimate x.mark.cost e.estimate e.cost) (entry_of s.count d) s.bag (later x at) (f.order x at);
   due = f.due;
 }
   where
-    new : Sound p (set s.labels s.count l) (suc s.count) (entry_of p s.count l h)
+    new : Sound p (set s.labels s.count d.label) (suc s.count) (entry_of s.count d)
     new =
-        let same : label_at (set s.labels s.count l) s.count ≡ l = get_or-set_same s.labels s.count l no_label room in
+        let same : label_at (set s.labels s.count d.label) s.count ≡ d.label = get_or-set_same s.labels s.count d.label no_label room in
         record { below = omega arith; mark = sym (ap (λ (z : Label). z.mark) same); ranked = rw same ranked; within = within; place = rw same place }
 
 -- The child of l by this leg was handled, if the leg leaves the site of l.
@@ -113,7 +114,7 @@ module _ {t : Terms} {p : Problem} {w : State} (acc : Accepted t p w) (i : ℕ) 
         sooner_through x.estimate x.mark.cost e l.mark.cost (p.graph.join mark.cost h.cost) mark.cost (sooner x at) after
 
     try_fair : (s u : State) → Tried p i l j leg s u → FairIn p s done → FairIn p u done
-    try_fair s u (wrote h d x) f = write_fair p (child p i l j leg) h s done x (child_ranked h d.known) (omega (arith, d.within)) place (child_is_later d.here h d.known) f
+    try_fair s u (wrote h d x r) f = write_fair p (estimated p.graph (child p.graph i l j leg) h) s done x (child_ranked h d.known) (omega (arith, d.within)) place (child_is_later d.here h d.known) f
     try_fair s u way f = f
 
     -- A dominated child is covered: what its head's record is due to was taken sooner, so that it costs no more.
@@ -131,11 +132,12 @@ module _ {t : Terms} {p : Problem} {w : State} (acc : Accepted t p w) (i : ℕ) 
     try_handles s u (passed (cut_off q)) o f here = hopeless (cut_off_hopeless acc leg.head mark small q)
     try_handles s u (passed (late h k q)) o f here = hopeless (late_hopeless acc leg.head mark h small k q)
     try_handles s u (passed (beaten h k fits q)) o f here = dominated_covered s here f h k fits (leb-true _ _ q)
-    try_handles s u (full h why d x r) o f here = absurd (stopped_not_open why o)
-    try_handles s u (wrote h d x) o f here =
-        let k = child p i l j leg in
+    try_handles s u (full h why d x) o f here = absurd (stopped_not_open why o)
+    try_handles s u (wrote h d x r) o f here =
+        let k = child p.graph i l j leg in
+        let first = entry_of s.count (estimated p.graph k h) in
         let is : label_at (set s.labels s.count k) s.count ≡ k = get_or-set_same s.labels s.count k no_label x in
-        waiting (entry_of p s.count k h) (has_insert_new (entry_of p s.count k h) s.bag) (omega arith) (ap (λ (z : Label). z.site) is) (covers_itself k.mark)
+        waiting first (has_insert_new first s.bag) (omega arith) (ap (λ (z : Label). z.site) is) (covers_itself k.mark)
 
   pub expand_fair : (j : ℕ) (legs : List Leg) (s : State) → LegsFrom p.graph j legs → FairIn p s done → FairIn p (expand p i l j legs s) done
   expand_fair j [] s q f = f

@@ -3,7 +3,7 @@ mod Marks
 mod Estimates
 pub mod Ways
 mod Growing
-mod Chains
+pub mod Chains
 mod Covering
 mod Expanding
 mod Taking

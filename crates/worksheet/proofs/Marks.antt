@@ -4,7 +4,7 @@ use Rattle.network.specs.Tariffs.{Terms}
 use Rattle.network.specs.Walks.{Graph, leg_at, Walk, cost_on, walk_delay}
 use Rattle.network.proofs.Ranges.{ranges}
 use Rattle.worksheet.specs.declared.records.Mark.{Mark}
-use Rattle.worksheet.specs.Problem.{Problem, nothing, extend, finish, total}
+use Rattle.worksheet.specs.Problem.{Problem, nothing, extend}
 use Rattle.worksheet.specs.Steps.{State}
 use Rattle.worksheet.specs.Series.{Accepted, walk_mark, Covers}
 
@@ -21,6 +21,11 @@ covers_both x y h k =
     let d : x.delay ≡ y.delay = omega (arith, h.1, k.1) in
     λ i. record { cost = c i; delay = d i }
 
+-- What m comes to with the legs of a walk more.
+abbrev pub finish : Graph → Mark → List ℕ → Mark
+finish g m [] = m
+finish g m (j ∷ js) = finish g (extend g m (leg_at g j)) js
+
 -- A walk finished leg by leg comes to its cost and its delay.
 finish_is : (g : Graph) (js : List ℕ) (m : Mark) → finish g m js ≡ record { cost = cost_on g m.cost js; delay = m.delay + walk_delay g js }
 finish_is g [] m = let d : m.delay ≡ m.delay + 0 = omega arith in λ i. record { cost = m.cost; delay = d i }
@@ -28,8 +33,8 @@ finish_is g (j ∷ js) m =
     let d : (m.delay + g.delay (leg_at g j)) + walk_delay g js ≡ m.delay + (g.delay (leg_at g j) + walk_delay g js) = omega arith in
     finish_is g js (extend g m (leg_at g j)) ∙ (λ i. record { cost = cost_on g (g.join m.cost (g.price (leg_at g j))) js; delay = d i })
 
-pub total_is : (g : Graph) (js : List ℕ) → total g js ≡ walk_mark g js
-total_is g js = let d : 0 + walk_delay g js ≡ walk_delay g js = omega arith in finish_is g js nothing ∙ (λ i. record { cost = cost_on g 0 js; delay = d i })
+pub finish_nothing : (g : Graph) (js : List ℕ) → finish g nothing js ≡ walk_mark g js
+finish_nothing g js = let d : 0 + walk_delay g js ≡ walk_delay g js = omega arith in finish_is g js nothing ∙ (λ i. record { cost = cost_on g 0 js; delay = d i })
 
 -- The laws of a tariff, said of the joins of a graph and of the prices of its legs.
 pub record Costs (g : Graph) : Type 0 where

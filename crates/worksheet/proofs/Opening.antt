@@ -10,7 +10,7 @@ use Rattle.network.proofs.Ranges.{ranges}
 use Rattle.queue.proofs.Bags.{length_insert, has_insert_new, rising_none}
 use Rattle.worksheet.specs.declared.records.Label.{Label}
 use Rattle.worksheet.specs.Problem.{Problem, nothing}
-use Rattle.worksheet.specs.Steps.{State, no_label, label_at, entry_of, write, bare, start_label, open_fit, open_at}
+use Rattle.worksheet.specs.Steps.{State, no_label, label_at, entry_of, write, estimated, bare, start_label, open_fit, open_at}
 use Rattle.worksheet.specs.Series.{Accepted}
 use Rattle.worksheet.proofs.Members.{has_none}
 use Rattle.worksheet.proofs.Marks.{covers_itself}
@@ -65,9 +65,9 @@ module _ {t : Terms} {p : Problem} {w : State} (acc : Accepted t p w) where
   }
 
   -- With label 0, the start waits in the bag.
-  write_invariant : (h : Bound) → p.at p.start ≡ Some h → h.delay ≤ p.limit → Invariant p [] 0 (write p (start_label p) h (bare p w))
+  write_invariant : (h : Bound) → p.at p.start ≡ Some h → h.delay ≤ p.limit → Invariant p [] 0 (write (estimated p.graph (start_label p) h) (bare p w))
   write_invariant h e q =
-      let first = entry_of p 0 (start_label p) h in
+      let first = entry_of 0 (estimated p.graph (start_label p) h) in
       let is : label_at (set w.labels 0 (start_label p)) 0 ≡ start_label p = get_or-set_same w.labels 0 (start_label p) no_label acc.some_label in
       let ranked : Ranked p p.start 0 (p.graph.join 0 h.cost) = record { bound = h; known = e; cost_small = omega arith; bound_small = acc.start_estimate_fits h e; estimate = refl } in
       record {
@@ -76,7 +76,7 @@ module _ {t : Terms} {p : Problem} {w : State} (acc : Accepted t p w) where
         standing = record {
           done = [];
           progress = record {
-            fair = write_fair p (start_label p) h (bare p w) [] acc.some_label ranked (omega arith) acc.start_is_site (λ x at. absurd (has_none x at)) bare_fair;
+            fair = write_fair p (estimated p.graph (start_label p) h) (bare p w) [] acc.some_label ranked (omega arith) acc.start_is_site (λ x at. absurd (has_none x at)) bare_fair;
             closed = λ x at. absurd (has_none x at);
             begun = waiting first (has_insert_new first []) (omega arith) (ap (λ (z : Label). z.site) is) (covers_itself nothing);
           };

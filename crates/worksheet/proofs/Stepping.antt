@@ -1,6 +1,6 @@
 -- Each step of an open search keeps what an accepted open sets up. Assumes nothing.
-use Rattle.std.proofs.Common.{◌≡◌, ℕ, suc, ◌+◌, ◌<◌, ◌≤◌, true, false, cond, ◌&&◌, eqb, ltb, leb, ◌⊎◌, List, [], ◌∷◌, length, get_or, set, sym, refl, ap, ◌∙◌, subst, inl, inr, ⊎_elim, arith, get_or-set_other, get_or-set_same}
-use Rattle.std.specs.List.{ContainsAt as Has}
+use Rattle.std.proofs.Common.{◌≡◌, ℕ, suc, ◌+◌, ◌<◌, ◌≤◌, true, false, eqb, ltb, leb, ◌⊎◌, List, [], ◌∷◌, length, get_or, set, sym, refl, ap, ◌∙◌, subst, inl, inr, ⊎_elim, arith, get_or-set_other, get_or-set_same}
+use Rattle.std.specs.List.{ContainsAt as Has, list_all}
 use Rattle.std.proofs.lemmas.Bool.{and_from, cond_both, both_ways, cases_eq, lt-ltb, le-leb, leb-true, leb-false}
 use Rattle.std.proofs.lemmas.Bool.Decides.{nat_tests}
 use Rattle.network.specs.declared.legs.Leg.{Leg}
@@ -14,13 +14,13 @@ use Rattle.worksheet.specs.declared.records.Mark.{Mark}
 use Rattle.worksheet.specs.declared.records.Phase.{Phase}
 use Rattle.worksheet.specs.declared.records.Phase.TheVariants.{Open, Found, Exhausted}
 use Rattle.worksheet.specs.Problem.{Problem}
-use Rattle.worksheet.specs.Steps.{State, in_phase, with_bag, dominated, expand, settle, legs_inside, inside}
+use Rattle.worksheet.specs.Steps.{State, in_phase, with_bag, dominated, expand, settle, leads_inside, leg_inside, inside}
 use Rattle.worksheet.specs.Traces.{trace}
-use Rattle.worksheet.specs.Series.{Accepted, RouteOf, walk_mark, Covers, Offered, NoLater, NextOffer, enough}
+use Rattle.worksheet.specs.Series.{Accepted, RouteOf, walk_mark, Covers, Offered, NoLater, NextOffer, enough_of}
 use Rattle.worksheet.proofs.Members.{has_none, each_cons}
-use Rattle.worksheet.proofs.Marks.{covers_itself, covers_both, total_is}
-use Rattle.worksheet.proofs.Ways.{stopped_not_open, label_of, Stepped, none_left, led_outside, dropped, arrived, expanded}
-use Rattle.worksheet.proofs.Growing.{weight, record_is_there, weight_falls, expand_grew, GoesOnOrFull, expand_goes_on, expand_finds_room}
+use Rattle.worksheet.proofs.Marks.{covers_itself, covers_both, finish_nothing}
+use Rattle.worksheet.proofs.Ways.{label_of, Stepped, none_left, led_outside, dropped, arrived, expanded}
+use Rattle.worksheet.proofs.Growing.{weight, record_is_there, weight_falls, expand_grew, GoesOnOrFull, expand_goes_on}
 use Rattle.worksheet.proofs.Chains.{LegsFrom, all_legs, trace_leads, expand_chained}
 use Rattle.worksheet.proofs.Covering.{Sound, Reached, ahead}
 use Rattle.worksheet.proofs.Covering as reached
@@ -28,12 +28,12 @@ use Rattle.worksheet.proofs.Taking.{Progress, settled_of, Arrived, route_is_reac
 use Rattle.worksheet.proofs.Invariants.{offered_more, offered_by, Going, Standing, StandingIn, Invariant}
 
 -- Where all legs are in range, none of them leads outside.
-legs_are_inside : (p : Problem) → ((j : ℕ) → j < length p.graph.legs → leg_in_range p.sites (leg_at p.graph j) ≡ true) → p.sites ≤ p.records → (u j : ℕ) (legs : List Leg) → LegsFrom p.graph j legs → legs_inside p u legs ≡ true
+legs_are_inside : (p : Problem) → ((j : ℕ) → j < length p.graph.legs → leg_in_range p.sites (leg_at p.graph j) ≡ true) → p.sites ≤ p.records → (u j : ℕ) (legs : List Leg) → LegsFrom p.graph j legs → list_all (leg_inside p.records u) legs ≡ true
 legs_are_inside p in_range le u j [] q = refl
 legs_are_inside p in_range le u j (leg ∷ more) q =
     let r = ranges p.sites leg (rw q.1 (in_range j q.0)) in
-    and_from (cond (eqb leg.tail u) (ltb leg.head p.records && leb leg.medium 7) true) (legs_inside p u more)
-    (cond_both (eqb leg.tail u) (ltb leg.head p.records && leb leg.medium 7) true (λ x. x ≡ true)
+    and_from (leg_inside p.records u leg) (list_all (leg_inside p.records u) more)
+    (cond_both (eqb leg.tail u) (leads_inside p.records leg) true (λ x. x ≡ true)
     (λ _. and_from (ltb leg.head p.records) (leb leg.medium 7) (lt-ltb _ _ (omega (arith, r.head))) (le-leb _ _ r.medium)) (λ _. refl))
     (legs_are_inside p in_range le u (suc j) more q.2)
 
@@ -71,13 +71,13 @@ module _ {t : Terms} {p : Problem} {w : State} (acc : Accepted t p w)
     one_taken = ap (λ (b : List Entry). k + length b) (sym q) ∙ going.taken
 
     -- No number that the step uses leads outside.
-    is_inside : inside p (with_bag es s) e.label l ≡ true
+    is_inside : inside p.records p.whole p.graph.legs s.count s.labels e.label ≡ true
     is_inside =
         let legs = legs_are_inside p acc.legs_in_range acc.sites_have_records l.site 0 p.graph.legs (all_legs p.graph) in
         grind (arith, nat_tests, legs, sound.below, sound.place, inv.fits, acc.sites_have_records, acc.table_is_whole)
 
     -- Dropped, it leaves all else as it is.
-    dropped_invariant : dominated s l.site l.mark ≡ true → Invariant p os (suc k) (with_bag es s)
+    dropped_invariant : dominated s.least l.site l.mark ≡ true → Invariant p os (suc k) (with_bag es s)
     dropped_invariant r = record {
       chained = inv.chained;
       fits = inv.fits;
@@ -92,7 +92,7 @@ module _ {t : Terms} {p : Problem} {w : State} (acc : Accepted t p w)
     }
 
     -- Not dominated, it is settled.
-    module _ (r : dominated s l.site l.mark ≡ false) where
+    module _ (r : dominated s.least l.site l.mark ≡ false) where
       new : l.mark.delay < get_or s.least l.site 0
       new = leb-false _ _ r
 
@@ -127,7 +127,7 @@ module _ {t : Terms} {p : Problem} {w : State} (acc : Accepted t p w)
           let g = p.graph in
           let js = trace s.labels e.label in
           let leads = trace_leads p s.labels s.count inv.chained p.goal e.label sound.below goal in
-          let is : walk_mark g js ≡ l.mark = sym (total_is g js) ∙ leads.comes_to in
+          let is : walk_mark g js ≡ l.mark = sym (finish_nothing g js) ∙ leads.comes_to in
           record {
             route = record { leads = leads.walk; within = omega (arith, ap (λ (m : Mark). m.delay) (is ∙ sym sound.mark), sound.within) };
             comes_to = is;
@@ -159,8 +159,8 @@ module _ {t : Terms} {p : Problem} {w : State} (acc : Accepted t p w)
       abbrev end : State
       end = expand p e.label l 0 p.graph.legs (settle l (with_bag es s))
 
-      -- Expanded, it has room unless the tables are short.
-      expanded_standing : (l.site ≡ p.goal → ⊥) → GoesOnOrFull end → StandingIn p os (suc k) end end.phase
+      -- Expanded, it goes on, or has filled a table before there were enough labels.
+      expanded_standing : (l.site ≡ p.goal → ⊥) → GoesOnOrFull p (enough_of p) end → StandingIn p os (suc k) end end.phase
       expanded_standing away (inl x) =
           let g = expand_grew p e.label l 0 p.graph.legs (settle l (with_bag es s)) in
           let at_goal : get_or end.least p.goal 0 ≤ get_or s.least p.goal 0 = omega (arith, lower, ap (λ (z : List ℕ). get_or z p.goal 0) g.least) in
@@ -174,27 +174,22 @@ module _ {t : Terms} {p : Problem} {w : State} (acc : Accepted t p w)
             weighed = omega (arith, g.count, weight_falls s.least l.site l.mark.delay p.graph.legs new, same, going.weighed);
           })
       expanded_standing away (inr x) =
-          let less = weight_falls s.least l.site l.mark.delay p.graph.legs new in
           let g = expand_grew p e.label l 0 p.graph.legs (settle l (with_bag es s)) in
-          subst (StandingIn p os (suc k) end) (sym x.is) (
-            x.inside,
-            λ a b.
-                let still = expand_finds_room p e.label l 0 p.graph.legs (enough p) (settle l (with_bag es s)) o (omega (arith, one_taken)) (omega (arith, less, going.weighed)) (omega (arith, a, g.table)) b in
-                stopped_not_open x.why (sym x.is ∙ still),
-          )
+          subst (StandingIn p os (suc k) end) (sym x.is) (record { filled = x.filled; below = x.below; entries = omega (arith, one_taken, g.bag) })
 
       expanded_invariant : (l.site ≡ p.goal → ⊥) → Invariant p os (suc k) end
       expanded_invariant away =
+          let less = weight_falls s.least l.site l.mark.delay p.graph.legs new in
           let kept = expand_chained p e.label l 0 p.graph.legs (settle l (with_bag es s)) (all_legs p.graph) (record { below = sound.below; fits = inv.fits; is = refl; chained = inv.chained }) in
           record {
             chained = kept.chained;
             fits = kept.fits;
-            standing = expanded_standing away (expand_goes_on p e.label l 0 p.graph.legs (settle l (with_bag es s)) (inl o));
+            standing = expanded_standing away (expand_goes_on p e.label l 0 p.graph.legs (enough_of p) (settle l (with_bag es s)) (omega (arith, less, going.weighed)) (inl o));
           }
 
   pub step_invariant : (u : State) → Stepped p s u → Invariant p os (suc k) u
   step_invariant u (none_left q) = none_left_invariant q
-  step_invariant u (led_outside e es q f) = absurd (both_ways (inside p (with_bag es s) e.label (label_of s e)) f (is_inside e es q))
+  step_invariant u (led_outside e es q f) = absurd (both_ways (inside p.records p.whole p.graph.legs s.count s.labels e.label) f (is_inside e es q))
   step_invariant u (dropped e es q r) = dropped_invariant e es q r
   step_invariant u (arrived e es q r goal) = arrived_invariant e es q r goal
   step_invariant u (expanded e es q r away) = expanded_invariant e es q r away

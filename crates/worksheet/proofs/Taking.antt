@@ -14,11 +14,11 @@ use Rattle.queue.proofs.Orders.{before_irreflexive, not_before_estimate, not_bef
 use Rattle.worksheet.specs.declared.records.Label.{Label}
 use Rattle.worksheet.specs.declared.records.Mark.{Mark}
 use Rattle.worksheet.specs.declared.records.Phase.TheVariants.{Open}
-use Rattle.worksheet.specs.Problem.{Problem, nothing, extend, finish}
+use Rattle.worksheet.specs.Problem.{Problem, nothing, extend}
 use Rattle.worksheet.specs.Steps.{State, label_at, with_bag, settle, expand}
 use Rattle.worksheet.specs.Series.{Accepted, RouteOf, walk_mark, Covers, NoLater}
 use Rattle.worksheet.proofs.Members.{has_first, has_rest, each_cons}
-use Rattle.worksheet.proofs.Marks.{covers_through, total_is, costs, finish_more}
+use Rattle.worksheet.proofs.Marks.{finish, covers_through, finish_nothing, costs, finish_more}
 use Rattle.worksheet.proofs.Estimates.{same_some, Sooner, Ranked, bounded, cheaper}
 use Rattle.worksheet.proofs.Ways.{label_of}
 use Rattle.worksheet.proofs.Growing.{record_is_there}
@@ -46,7 +46,7 @@ module _ {t : Terms} {p : Problem} {w : State} (acc : Accepted t p w) (ls : List
   -- Every route was handled from the start on, and so is reached.
   pub route_is_reached : (b : List Entry) (done : List Settled) → Progress p ls n least b done → (js : List ℕ) → RouteOf p js → Reached p ls b done (walk_mark p.graph js)
   route_is_reached b done progress js r =
-      let is = total_is p.graph js in
+      let is = finish_nothing p.graph js in
       subst (Reached p ls b done) is
       (handled_is_reached acc ls n b done progress.closed js p.start nothing (omega arith) progress.begun r.leads (omega (arith, ap (λ (m : Mark). m.delay) is, r.within)))
 

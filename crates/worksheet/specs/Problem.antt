@@ -1,12 +1,12 @@
--- What a search is given, and what a walk comes to in it. Assumes nothing.
-use Rattle.std.specs.Prelude.{ℕ, ◌+◌, Bool, List, [], ◌∷◌, length, Option, nat_le}
+-- What a search is given, what a walk comes to in it, and how much room is enough for it. Assumes nothing.
+use Rattle.std.specs.Prelude.{ℕ, ◌+◌, ◌*◌, ◌≤◌, Bool, List, length, Option, nat_le}
 use Rattle.network.specs.declared.estimates.Bound.{Bound}
 use Rattle.network.specs.declared.legs.Leg.{Leg}
 use Rattle.network.specs.declared.legs.Network.{Network}
 use Rattle.network.specs.declared.plans.Plan.{Plan}
 use Rattle.network.specs.Checks.{legs_of}
 use Rattle.network.specs.Tariffs.{Terms}
-use Rattle.network.specs.Walks.{Graph, graph, leg_at}
+use Rattle.network.specs.Walks.{Graph, graph}
 use Rattle.worksheet.specs.declared.records.Mark.{Mark}
 use Rattle.worksheet.specs.declared.records.Query.{Query}
 
@@ -38,6 +38,10 @@ pub record Problem : Type 0 where
   pub capacity : ℕ
   pub whole : Bool
 
+-- The leg table holds all legs.
+abbrev pub is_whole : Network → List Leg → Bool
+is_whole net table = nat_le net.legs (length table)
+
 -- A question put to a worksheet.
 abbrev pub problem : Setting → Query → Problem
 problem s q = record {
@@ -49,7 +53,7 @@ problem s q = record {
   limit = q.limit;
   records = s.records;
   capacity = s.capacity;
-  whole = nat_le s.net.legs (length s.table);
+  whole = is_whole s.net s.table;
 }
 
 -- What the empty walk comes to.
@@ -60,11 +64,11 @@ nothing = record { cost = 0; delay = 0 }
 abbrev pub extend : Graph → Mark → Leg → Mark
 extend g m leg = record { cost = g.join m.cost (g.price leg); delay = m.delay + g.delay leg }
 
--- The same with the legs of a walk more.
-abbrev pub finish : Graph → Mark → List ℕ → Mark
-finish g m [] = m
-finish g m (j ∷ js) = finish g (extend g m (leg_at g j)) js
+-- With m legs and a limit of L, no search needs more than 1 + m × (L + 1) labels, nor more entries than that, and it ends with one
+-- step more.
+abbrev pub enough : ℕ → ℕ → ℕ
+enough legs limit = 1 + legs * (limit + 1)
 
--- What a walk comes to.
-abbrev pub total : Graph → List ℕ → Mark
-total g js = finish g nothing js
+-- There are n label records, and room in the queue for n entries.
+abbrev pub RoomFor : ℕ → ℕ → ℕ → Type 0
+RoomFor n labels capacity = (n ≤ labels) × (n ≤ capacity)

@@ -1,9 +1,9 @@
 -- A search that is resumed after its offers: which states it comes to, and what is known of each. Assumes nothing.
-use Rattle.std.specs.Prelude.{◌≡◌, ℕ, suc, ◌+◌, ◌-◌, ◌*◌, ◌^◌, ◌<◌, ◌≤◌, min, true, ◌⊎◌, ◌↔◌, List, [], ◌∷◌, length, Some, None, Option, ◌≢◌}
+use Rattle.std.specs.Prelude.{◌≡◌, ℕ, suc, ◌+◌, ◌-◌, ◌^◌, ◌<◌, ◌≤◌, min, true, ◌⊎◌, ◌↔◌, List, [], ◌∷◌, length, Some, None, Option, ◌≢◌}
 use Rattle.network.specs.declared.estimates.Bound.{Bound}
 use Rattle.network.specs.declared.legs.Leg.{Leg}
 use Rattle.network.specs.declared.refusals.Stop.{Stop}
-use Rattle.network.specs.declared.refusals.Stop.TheVariants.{Outside}
+use Rattle.network.specs.declared.refusals.Stop.TheVariants.{Outside, LabelsUsed, QueueFull}
 use Rattle.network.specs.Estimates.{LawfulTowards}
 use Rattle.network.specs.Legs.{leg_in_range}
 use Rattle.network.specs.Tariffs.{Terms, Lawful}
@@ -11,11 +11,12 @@ use Rattle.network.specs.Walks.{Graph, leg_at, walk_cost, walk_delay, Route, Che
 use Rattle.worksheet.specs.declared.records.Mark.{Mark}
 use Rattle.worksheet.specs.declared.records.Origin.{Origin}
 use Rattle.worksheet.specs.declared.records.Phase.TheVariants.{Fresh, Open, Found, Exhausted, Stopped}
-use Rattle.worksheet.specs.Problem.{Problem}
+use Rattle.worksheet.specs.Problem.{Problem, enough, RoomFor}
 use Rattle.worksheet.specs.Steps.{State, label_at, in_phase, opened, step}
 use Rattle.worksheet.specs.Traces.{trace}
 
--- Opened on the tables of w, the search is in state s after k steps, resumed after each of the offers os, the last first.
+-- Opened on the tables of w, the search is in state s after k steps, resumed after each of the offers os, the last first. No call
+-- resumes a search: those that calls make have no offers. The theorem below covers a search that is resumed all the same.
 pub data Series (p : Problem) (w : State) : List Mark → ℕ → State → Type 0 where
   begun : Series p w [] 0 (opened p w)
   stepped : {os : List Mark} {k : ℕ} {s : State} → Series p w os k s → s.phase ≡ Open → Series p w os (suc k) (step p s)
@@ -67,13 +68,19 @@ pub record NextOffer (p : Problem) (os : List Mark) (js : List ℕ) (m : Mark) :
   pub next : (ks : List ℕ) → RouteOf p ks → Offered os (walk_mark p.graph ks) ⊎ NoLater m (walk_mark p.graph ks)
 
 -- No search needs more labels or more entries.
-abbrev pub enough : Problem → ℕ
-enough p = 1 + length p.graph.legs * (p.limit + 1)
+abbrev pub enough_of : Problem → ℕ
+enough_of p = enough (length p.graph.legs) p.limit
 
 -- Label i with this origin: only label 0 has none; every other has a parent before it, and one of n legs.
 abbrev pub Linked : ℕ → ℕ → Option Origin → Type 0
 Linked n i None = i ≡ 0
 Linked n i (Some o) = (o.parent < i) × (o.leg < n)
+
+-- The table that stopped a search is full: all label records are used, or the queue holds its capacity.
+abbrev pub Full : ℕ → State → Stop → Type 0
+Full capacity s Outside = ⊥
+Full capacity s LabelsUsed = s.count ≡ length s.labels
+Full capacity s QueueFull = length s.bag ≡ capacity
 
 -- What is known of a search in state s after k steps, resumed after the offers os.
 pub record Known (p : Problem) (w : State) (os : List Mark) (k : ℕ) (s : State) : Type 0 where
@@ -82,8 +89,12 @@ pub record Known (p : Problem) (w : State) (os : List Mark) (k : ℕ) (s : State
   pub exhausted_means_all_offered : s.phase ≡ Exhausted → (js : List ℕ) → RouteOf p js → Offered os (walk_mark p.graph js)
   pub never_fresh : s.phase ≢ Fresh
   pub never_outside : s.phase ≢ Stopped Outside
-  pub enough_room_never_stops : enough p ≤ length w.labels → enough p ≤ p.capacity → (why : Stop) → s.phase ≢ Stopped why
-  pub enough_steps_end : s.phase ≡ Open → k < 2 + length p.graph.legs * (p.limit + 1)
+  -- An accepted open has tested that the queue has room for an entry at all.
+  pub stopped_means_full : 1 ≤ p.capacity → (why : Stop) → s.phase ≡ Stopped why → Full p.capacity s why
+  pub enough_labels : enough_of p ≤ length w.labels → s.phase ≢ Stopped LabelsUsed
+  pub enough_entries : enough_of p ≤ p.capacity → s.phase ≢ Stopped QueueFull
+  pub enough_room_never_stops : RoomFor (enough_of p) (length w.labels) p.capacity → (why : Stop) → s.phase ≢ Stopped why
+  pub enough_steps_end : s.phase ≡ Open → k < 1 + enough_of p
   pub steps_counted : s.steps ≡ min k (2 ^ 64 - 1)
   pub labels_linked : (i : ℕ) → i < s.count → Linked (length p.graph.legs) i (label_at s.labels i).from
   pub labels_fit : s.count ≤ length s.labels

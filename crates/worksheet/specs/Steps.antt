@@ -4,8 +4,10 @@ use Rattle.std.specs.List.{list_all}
 use Rattle.network.specs.declared.estimates.Bound.{Bound}
 use Rattle.network.specs.declared.legs.Leg.{Leg}
 use Rattle.network.specs.declared.refusals.Stop.TheVariants.{Outside, LabelsUsed, QueueFull}
+use Rattle.network.specs.Walks.{Graph}
 use Rattle.queue.specs.declared.entry.Entry.{Entry}
 use Rattle.queue.specs.Bag.{insert}
+use Rattle.worksheet.specs.declared.records.Due.{Due}
 use Rattle.worksheet.specs.declared.records.Label.{Label}
 use Rattle.worksheet.specs.declared.records.Mark.{Mark}
 use Rattle.worksheet.specs.declared.records.Phase.{Phase}
@@ -28,60 +30,63 @@ no_label = record { mark = nothing; site = 0; from = None }
 abbrev pub label_at : List Label → ℕ → Label
 label_at ls i = slice_index_or ls i no_label
 
--- The entry of label i, where its site has the estimate h: its estimated cost is its cost joined with that of the estimate.
-abbrev pub entry_of : Problem → ℕ → Label → Bound → Entry
-entry_of p i l h = record { estimate = p.graph.join l.mark.cost h.cost; cost = l.mark.cost; delay = l.mark.delay; label = i }
-
 abbrev pub in_phase : Phase → State → State
 in_phase q s = record s { phase = q }
 
 abbrev pub with_bag : List Entry → State → State
 with_bag es s = record s { bag = es }
 
+-- The entry of label i, which is written as it is due.
+abbrev pub entry_of : ℕ → Due → Entry
+entry_of i d = record { estimate = d.estimate; cost = d.label.mark.cost; delay = d.label.mark.delay; label = i }
+
 -- One label more, with its entry.
-abbrev pub write : Problem → Label → Bound → State → State
-write p l h s = record s { labels = slice_set s.labels s.count l; count = suc s.count; bag = insert (entry_of p s.count l h) s.bag }
+abbrev pub write : Due → State → State
+write d s = record s { labels = slice_set s.labels s.count d.label; count = suc s.count; bag = insert (entry_of s.count d) s.bag }
 
 abbrev pub is_open : Phase → Bool
 is_open Open = true
 is_open q = false
 
--- The delay is not below the least-delay record of the site: dominated by a label that was taken there before.
-abbrev pub dominated : State → ℕ → Mark → Bool
-dominated s site m = nat_le (slice_index s.least site) m.delay
+-- The delay is not below the site's least-delay record: dominated by a label that was taken there before, or beyond the limit.
+abbrev pub dominated : List ℕ → ℕ → Mark → Bool
+dominated least site m = nat_le (slice_index least site) m.delay
 
 -- The label that leg j leads to from the site of label i.
-abbrev pub child : Problem → ℕ → Label → ℕ → Leg → Label
-child p i l j leg = record { mark = extend p.graph l.mark leg; site = leg.head; from = Some (record { parent = i; leg = j }) }
+abbrev pub child : Graph → ℕ → Label → ℕ → Leg → Label
+child g i l j leg = record { mark = extend g l.mark leg; site = leg.head; from = Some (record { parent = i; leg = j }) }
 
--- A child that is due is written, unless no label record is left or the queue holds its capacity: that stops the search.
-abbrev pub try_room : Problem → Label → Bound → State → Bool → Bool → State
-try_room p k h s false entry_fits = in_phase (Stopped LabelsUsed) s
-try_room p k h s true false = in_phase (Stopped QueueFull) s
-try_room p k h s true true = write p k h s
+-- A label whose site has the estimate h: its estimated cost is its cost joined with that of the estimate.
+abbrev pub estimated : Graph → Label → Bound → Due
+estimated g l h = record { label = l; estimate = g.join l.mark.cost h.cost }
 
--- It is skipped if it is dominated.
-abbrev pub try_new : Problem → Label → Bound → State → Bool → State
-try_new p k h s true = s
-try_new p k h s false = try_room p k h s (nat_lt s.count (length s.labels)) (nat_lt (length s.bag) p.capacity)
+-- A label is due, unless its site is cut off, its delay plus the estimated delay exceeds the limit, or it is dominated.
+abbrev pub due_at : Graph → ℕ → List ℕ → Label → Option Bound → Option Due
+due_at g limit least l None = None
+due_at g limit least l (Some h) =
+    if nat_le (l.mark.delay + h.delay) limit
+    then (if dominated least l.site l.mark then None else Some (estimated g l h))
+    else None
 
--- It is skipped if its delay plus the head's estimated delay exceeds the limit.
-abbrev pub try_fit : Problem → Label → Bound → State → Bool → State
-try_fit p k h s false = s
-try_fit p k h s true = try_new p k h s (dominated s k.site k.mark)
+-- The child of label i that is due by leg j, if the leg leaves the label's site.
+abbrev pub due_of : Graph → (ℕ → Option Bound) → ℕ → List ℕ → ℕ → Label → ℕ → Leg → Option Due
+due_of g at limit least i l j leg = if leg.tail == l.site then due_at g limit least (child g i l j leg) (at leg.head) else None
 
--- It is skipped if its site is cut off.
-abbrev pub try_head : Problem → Label → State → Option Bound → State
-try_head p k s None = s
-try_head p k s (Some h) = try_fit p k h s (nat_le (k.mark.delay + h.delay) p.limit)
+-- A label that is due is written, unless no label record is left or the queue holds its capacity: that stops the search.
+abbrev pub added : ℕ → Due → State → State
+added capacity d s =
+    if nat_lt s.count (length s.labels)
+    then (if nat_lt (length s.bag) capacity then write d s else in_phase (Stopped QueueFull) s)
+    else in_phase (Stopped LabelsUsed) s
 
-abbrev pub try_leg : Problem → ℕ → Label → ℕ → Leg → State → Bool → State
-try_leg p i l j leg s false = s
-try_leg p i l j leg s true = try_head p (child p i l j leg) s (p.at leg.head)
+-- Where none is due, nothing alters.
+abbrev pub add_due : ℕ → Option Due → State → State
+add_due capacity None s = s
+add_due capacity (Some d) s = added capacity d s
 
--- Leg j is tried from label i, if the search is still open and the leg leaves the label's site.
+-- Leg j is tried from label i, if the search is still open.
 abbrev pub try : Problem → ℕ → Label → ℕ → Leg → State → State
-try p i l j leg s = try_leg p i l j leg s (is_open s.phase && leg.tail == l.site)
+try p i l j leg s = if is_open s.phase then add_due p.capacity (due_of p.graph p.at p.limit s.least i l j leg) s else s
 
 -- The legs, numbered from j on, are tried from label i in their order.
 abbrev pub expand : Problem → ℕ → Label → ℕ → List Leg → State → State
@@ -93,33 +98,41 @@ abbrev pub settle : Label → State → State
 settle l s = record s { least = slice_set s.least l.site l.mark.delay }
 
 -- At the goal the search has found; elsewhere the label is expanded.
-abbrev pub arrive : Problem → ℕ → Label → State → Bool → State
-arrive p i l s true = in_phase (Found i l.mark) (settle l s)
-arrive p i l s false = expand p i l 0 p.graph.legs (settle l s)
+abbrev pub arrive : Problem → ℕ → Label → State → State
+arrive p i l s = if l.site == p.goal then in_phase (Found i l.mark) (settle l s) else expand p i l 0 p.graph.legs (settle l s)
 
 -- A dominated label is dropped.
-abbrev pub take_new : Problem → ℕ → Label → State → Bool → State
-take_new p i l s true = s
-take_new p i l s false = arrive p i l s (l.site == p.goal)
+abbrev pub take_new : Problem → ℕ → Label → State → State
+take_new p i l s = if dominated s.least l.site l.mark then s else arrive p i l s
 
--- Every leg from a site has a medium and leads to a site with a least-delay record.
-abbrev pub legs_inside : Problem → ℕ → List Leg → Bool
-legs_inside p site = list_all (λ leg. if leg.tail == site then (nat_lt leg.head p.records && nat_le leg.medium 7) else true)
+-- A leg has a medium and leads to a site with a least-delay record.
+abbrev pub leads_inside : ℕ → Leg → Bool
+leads_inside records leg = nat_lt leg.head records && nat_le leg.medium 7
 
--- No number that a step with label i uses leads outside its table.
-abbrev pub inside : Problem → State → ℕ → Label → Bool
-inside p s i l = (p.whole && (nat_lt i s.count && nat_lt i (length s.labels))) && (nat_lt l.site p.records && legs_inside p l.site p.graph.legs)
+-- The same, if it leaves the site.
+abbrev pub leg_inside : ℕ → ℕ → Leg → Bool
+leg_inside records site leg = if leg.tail == site then leads_inside records leg else true
 
-abbrev pub take_inside : Problem → ℕ → Label → State → Bool → State
-take_inside p i l s false = in_phase (Stopped Outside) s
-take_inside p i l s true = take_new p i l s (dominated s l.site l.mark)
+-- No number that a step with label i uses leads outside its table: the leg table is whole, the label is written and has a
+-- record, its site has a least-delay record, and every leg from there is inside.
+abbrev pub inside : ℕ → Bool → List Leg → ℕ → List Label → ℕ → Bool
+inside records whole legs count labels i =
+    let site = (label_at labels i).site in
+    (whole && (nat_lt i count && nat_lt i (length labels))) && (nat_lt site records && list_all (leg_inside records site) legs)
+
+-- Label i, if that is so.
+abbrev pub label_inside : ℕ → Bool → List Leg → ℕ → List Label → ℕ → Option Label
+label_inside records whole legs count labels i = if inside records whole legs count labels i then Some (label_at labels i) else None
+
+-- Else the search stops.
+abbrev pub take_inside : Problem → ℕ → Option Label → State → State
+take_inside p i None s = in_phase (Stopped Outside) s
+take_inside p i (Some l) s = take_new p i l s
 
 -- A step takes an entry; without one the search is exhausted.
 abbrev pub step_from : Problem → List Entry → State → State
 step_from p [] s = in_phase Exhausted s
-step_from p (e ∷ es) s =
-    take_inside p e.label (label_at s.labels e.label) (with_bag es s)
-    (inside p (with_bag es s) e.label (label_at s.labels e.label))
+step_from p (e ∷ es) s = take_inside p e.label (label_inside p.records p.whole p.graph.legs s.count s.labels e.label) (with_bag es s)
 
 -- Steps are counted, up to the largest number of 64 bits.
 abbrev pub tick : State → State
@@ -137,7 +150,7 @@ start_label p = record { mark = nothing; site = p.start; from = None }
 
 abbrev pub open_fit : Problem → State → Bound → Bool → State
 open_fit p w h false = bare p w
-open_fit p w h true = write p (start_label p) h (bare p w)
+open_fit p w h true = write (estimated p.graph (start_label p) h) (bare p w)
 
 abbrev pub open_at : Problem → State → Option Bound → State
 open_at p w None = bare p w

@@ -49,6 +49,13 @@ pub struct Label {
     pub from: Option<Origin>,
 }
 
+// A label that is due to be written, with its estimated cost.
+#[derive(Clone, Copy)]
+pub struct Due {
+    pub label: Label,
+    pub estimate: u64,
+}
+
 // How far a search has come. `Found` has the label at the goal and what its walk comes to.
 #[derive(Clone, Copy, PartialEq, Eq, Default, Debug)]
 pub enum Phase {

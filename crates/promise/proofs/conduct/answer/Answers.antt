@@ -1,12 +1,16 @@
+use Rattle.std.proofs.Common.{rules}
 use Rattle.promise.specs.Conduct.{opens, advances, traces}
-use Rattle.promise.proofs.Conducting.{of_call, tells_verdict}
+use Rattle.promise.proofs.Conducting.{of_request, tells_verdict}
 use Rattle.promise.proofs.conduct.answer.Goals as goal
-use Rattle.promise.proofs.conduct.answer.Goals.{in-Open, in-Advance, in-Verdict, in-Trace+in_ok-trace_into-in-Trace}
 
-pub returns-clause-does : goal.returns-clause-does
-returns-clause-does g c = elim c.match-call.branch [
-  | in-Open w ↦ rw (w.search-is, w.labels-is, w.least-is, w.queue-is, w.result-is) (of_call w.in-Open.is (opens _ _ _ w.open.ensures.answered w.open.ensures.estimates_fit))
-  | in-Advance w ↦ rw (w.search-is, w.labels-is, w.least-is, w.queue-is, w.result-is) (of_call w.in-Advance.is (advances _ _ _ w.advance.ensures.answered))
-  | in-Verdict w ↦ rw (w.search-is, w.labels-is, w.least-is, w.queue-is, w.result-is) (of_call w.in-Verdict.is (tells_verdict _ w.verdict.ensures))
-  | in-Trace+in_ok-trace_into-in-Trace w ↦ rw (w.search-is, w.labels-is, w.least-is, w.queue-is, w.result-is) (of_call w.in-Trace.is (traces _ _ w.in_ok-trace_into-in-Trace.ensures))
-]
+pub returns-in-Open-clause-does : goal.returns-in-Open-clause-does
+returns-in-Open-clause-does g c = of_request c.in-Open.is (opens _ _ _ c.open.ensures.answered c.open.ensures.estimates_fit)
+
+pub returns-in-Advance-clause-does : goal.returns-in-Advance-clause-does
+returns-in-Advance-clause-does g c = of_request c.in-Advance.is (advances _ _ _ (search (rules, c.advance.ensures.answered)))
+
+pub returns-in-Verdict-clause-does : goal.returns-in-Verdict-clause-does
+returns-in-Verdict-clause-does g c = of_request c.in-Verdict.is (tells_verdict _ c.verdict.ensures)
+
+pub returns-in-Trace-clause-does : goal.returns-in-Trace-clause-does
+returns-in-Trace-clause-does g c = of_request c.in-Trace.is (traces _ _ c.trace_into.ensures)

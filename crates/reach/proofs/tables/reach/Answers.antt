@@ -1,4 +1,4 @@
-use Rattle.std.proofs.Common.{sym, length-take-le}
+use Rattle.std.proofs.Common.{sym, length-take-le, rules}
 use Rattle.reach.proofs.Refusing.{reach_accepted}
 use Rattle.reach.proofs.Wholes.{parts_long, parts_few, parts_goal, parts_ranges, tables_written, tables_least, tables_lawful}
 use Rattle.reach.proofs.tables.reach.Goals as goal
@@ -18,7 +18,7 @@ slice_bounds-settle-end-4 g c = sym (length-take-le _ _ (reach_accepted _ _ _ _ 
 pub settle-requires : goal.settle-requires
 settle-requires g c =
     let a = reach_accepted _ _ _ _ _ c.in_ok-check.ensures in
-    record { equal_length = parts_long _ _ _ _ _ a; few_sites = parts_few _ _ _ _ _ a; goal_is_site = parts_goal _ _ _ _ _ a; legs_in_range = parts_ranges _ _ _ _ _ a _ c.legs_in-legs.ensures.legs }
+    record { equal_length = parts_long _ _ _ _ _ a; few_sites = parts_few _ _ _ _ _ a; goal_is_site = parts_goal _ _ _ _ _ a; legs_in_range = parts_ranges _ _ _ _ _ a c.legs_in-legs.result.now (search (rules, c.legs_in-legs.ensures.legs)) }
 
 pub returns : goal.returns
 returns g c =

@@ -4,7 +4,7 @@ use Rattle.std.proofs.lemmas.Bool.Decides.{nat_tests}
 use Rattle.std.proofs.lemmas.Iterator.{YieldsList-from_slice}
 use Rattle.std.proofs.lemmas.Iterator.Search.{all_from_yields_List}
 use Rattle.network.specs.Checks.{legs_of}
-use Rattle.search.specs.Parts.{leads_inside}
+use Rattle.worksheet.specs.Steps.{leads_inside}
 use Rattle.search.proofs.inside.all_inside.Goals as goal
 
 pub returns : goal.returns

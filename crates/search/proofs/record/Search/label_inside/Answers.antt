@@ -4,8 +4,7 @@ use Rattle.std.specs.List.{list_all}
 use Rattle.std.proofs.lemmas.Iterator.{YieldsList-from_slice}
 use Rattle.std.proofs.lemmas.Iterator.Search.{all_from_yields_List}
 use Rattle.network.specs.Checks.{legs_of}
-use Rattle.worksheet.specs.Steps.{no_label}
-use Rattle.search.specs.Parts.{leg_inside}
+use Rattle.worksheet.specs.Steps.{no_label, leg_inside}
 use Rattle.search.proofs.Insides.{inside_with_all, inside_by}
 use Rattle.search.proofs.record.Search.label_inside.Goals as goal
 use Rattle.search.proofs.record.Search.label_inside.Goals.{then-sound, else-sound}

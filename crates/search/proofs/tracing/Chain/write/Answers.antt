@@ -15,7 +15,7 @@ pub loop-origin-preserved : goal.loop-origin-preserved
 loop-origin-preserved c =
     let more = lay_fits _ _ _ _ _ _ _ _ _ c.loop-origin.invariant c.requires.long _ c.in-Some.ensures in
     let fits : c.loop-origin.place ≤ length c.loop-origin.buffer = omega (arith, c.loop-origin.invariant.long, c.requires.fits, c.loop-origin.auto.buffer) in
-    lay_on _ _ _ _ _ _ _ _ _ c.loop-origin.invariant _ more fits c.in-Some.ensures
+    lay_on _ _ _ _ _ _ _ _ _ c.loop-origin.invariant _ more fits c.in-Some.ensures _ (omega arith)
 
 pub returns : goal.returns
 returns c = lay_ends _ _ _ _ _ _ _ _ _ c.loop-origin.invariant c.requires.long c.in_default.ensures
