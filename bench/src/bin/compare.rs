@@ -32,15 +32,45 @@ mod library {
         pub steps: u64,
         pub cost: u64,
         pub line: u64,
+        pub legs: usize,
         pub delay: u32,
         pub outcome: u8,
         pub number: u8,
     }
 
+    #[repr(C)]
+    pub struct Allowance {
+        pub sites: usize,
+        pub legs: usize,
+        pub labels: usize,
+        pub steps: u32,
+    }
+
+    #[repr(C)]
+    #[derive(Clone, Copy, Debug)]
+    pub struct Written {
+        pub length: usize,
+        pub code: u8,
+    }
+
     #[link(name = "embed", kind = "static")]
     #[link(name = "libc_c", kind = "static")]
     extern "C" {
+        fn deqibur_plan_sheet(
+            sheet: *const u8,
+            sheet_len: usize,
+            allowance: *const Allowance,
+            output: *mut u8,
+            output_len: usize,
+        ) -> Written;
         fn deqibur_serve(
+            sheet: *const u8,
+            sheet_len: usize,
+            request: *const Request,
+            legs: *mut u16,
+            legs_len: usize,
+        ) -> Answer;
+        fn deqibur_serve_again(
             sheet: *const u8,
             sheet_len: usize,
             request: *const Request,
@@ -48,35 +78,108 @@ mod library {
         ) -> Answer;
     }
 
-    /// Serves a plan over the network of a sheet, once and then `again` times more.
-    pub fn serve(sheet: &[u8], plan: &Plan, again: u32) -> Answer {
-        let request = Request {
+    fn request(plan: &Plan) -> Request {
+        Request {
             labels: LABELS,
             limit: plan.limit,
             steps: STEPS,
             start: plan.start,
             goal: plan.goal,
+        }
+    }
+
+    /// Serves a plan over the network of a sheet, and puts the legs of its route into the buffer.
+    pub fn serve(sheet: &[u8], plan: &Plan, legs: &mut [u16]) -> Answer {
+        // SAFETY: the pointers lead to what they are said to for the time of the call, which keeps none of them.
+        unsafe {
+            deqibur_serve(
+                sheet.as_ptr(),
+                sheet.len(),
+                &request(plan),
+                legs.as_mut_ptr(),
+                legs.len(),
+            )
+        }
+    }
+
+    /// The text that answers a sheet, if there is room for it.
+    pub fn plan_sheet(sheet: &[u8], room: usize) -> Option<Vec<u8>> {
+        let allowance = Allowance {
+            sites: 1024,
+            legs: 4096,
+            labels: LABELS,
+            steps: u32::MAX,
         };
+        let mut text = vec![0; room];
+        // SAFETY: the pointers lead to what they are said to for the time of the call, which keeps none of them.
+        let written = unsafe {
+            deqibur_plan_sheet(
+                sheet.as_ptr(),
+                sheet.len(),
+                &allowance,
+                text.as_mut_ptr(),
+                text.len(),
+            )
+        };
+        text.truncate(written.length);
+        (written.code == 0).then_some(text)
+    }
+
+    /// Serves it once and then `again` times more.
+    pub fn serve_again(sheet: &[u8], plan: &Plan, again: u32) -> Answer {
         // SAFETY: both pointers lead to what they are said to for the time of the call, which keeps neither of them.
-        unsafe { deqibur_serve(sheet.as_ptr(), sheet.len(), &request, again) }
+        unsafe { deqibur_serve_again(sheet.as_ptr(), sheet.len(), &request(plan), again) }
     }
 }
 
-/// What the library answers where the planner in Rust answers this.
-fn expected(answer: deqibur_bench::planner::Answer) -> library::Answer {
+/// What the library answers where the planner in Rust answers this, with a route of so many legs.
+fn expected(answer: deqibur_bench::planner::Answer, legs: usize) -> library::Answer {
     let (outcome, cost, delay, number) = match answer.outcome {
-        Outcome::None => (0, 0, 0, 0),
         Outcome::Route { cost, delay } => (1, cost, delay, 0),
-        Outcome::LabelsUsed => (3, 0, 0, 16),
+        Outcome::None => (2, 0, 0, 0),
+        Outcome::LabelsUsed => (4, 0, 0, 16),
     };
     library::Answer {
         steps: answer.steps,
         cost,
         line: 0,
+        legs: if outcome == 1 { legs } else { 0 },
         delay,
         outcome,
         number,
     }
+}
+
+/// The line of a plan that came to this.
+fn line(plan: &Plan, answer: library::Answer, route: &[u16]) -> String {
+    let library::Answer {
+        steps, cost, delay, ..
+    } = answer;
+    let told = format!("{},{steps}", plan.broker);
+    match answer.outcome {
+        1 => route
+            .iter()
+            .fold(format!("route,{told},{cost},{delay}"), |line, leg| {
+                format!("{line},{leg}")
+            }),
+        2 => format!("none,{told}"),
+        _ => format!("stop,{told},{}", answer.number),
+    }
+}
+
+/// The cost and the delay of a list of legs, if they lead from the start of a plan to its goal.
+fn walk(sheet: &Sheet, plan: &Plan, route: &[u16]) -> Option<(u64, u32)> {
+    let (mut site, mut cost, mut delay) = (plan.start, 0, 0);
+    for &number in route {
+        let leg = sheet.legs.get(usize::from(number))?;
+        if leg.tail != site {
+            return None;
+        }
+        site = leg.head;
+        cost += u64::from(leg.fee);
+        delay += leg.delay();
+    }
+    (site == plan.goal).then_some((cost, delay))
 }
 
 /// The least of several measurements.
@@ -93,8 +196,8 @@ fn timed<T>(work: impl FnOnce() -> T) -> Duration {
 /// The time that the library takes for `repeats` servings of a plan: a call that serves the plan so many times more takes that
 /// much longer, everything else being the same.
 fn library_time(sheet: &[u8], plan: &Plan, repeats: u32) -> Duration {
-    let more = least(|| timed(|| library::serve(black_box(sheet), black_box(plan), repeats)));
-    let once = least(|| timed(|| library::serve(black_box(sheet), black_box(plan), 0)));
+    let more = least(|| timed(|| library::serve_again(black_box(sheet), black_box(plan), repeats)));
+    let once = least(|| timed(|| library::serve_again(black_box(sheet), black_box(plan), 0)));
     more.saturating_sub(once)
 }
 
@@ -123,22 +226,34 @@ struct Totals {
 fn compare(text: &str, sheet: &Sheet, repeats: u32) -> Result<Totals, String> {
     let mut planner = Planner::new(sheet);
     let mut totals = Totals::default();
+    let mut legs = vec![0; LABELS];
+    let mut lines = String::from("result,broker,steps,cost,delay,legs\n");
     for (i, plan) in sheet.plans.iter().enumerate() {
         let answer = planner.serve(plan);
-        let ours = expected(answer);
-        for again in [0, repeats] {
-            let theirs = library::serve(text.as_bytes(), plan, again);
-            if theirs != ours {
-                return Err(format!(
-                    "plan {i} ({plan:?}): the library answers {theirs:?}, the planner in Rust {ours:?}"
-                ));
-            }
+        let theirs = library::serve(text.as_bytes(), plan, &mut legs);
+        let again = library::serve_again(text.as_bytes(), plan, repeats);
+        let ours = expected(answer, theirs.legs);
+        if theirs != ours || again != ours {
+            return Err(format!(
+                "plan {i} ({plan:?}): the library answers {theirs:?} and {again:?}, the planner in Rust {ours:?}"
+            ));
         }
+        let route = &legs[..theirs.legs];
+        if ours.outcome == 1 && walk(sheet, plan, route) != Some((ours.cost, ours.delay)) {
+            return Err(format!(
+                "plan {i} ({plan:?}): the legs {route:?} do not come to {ours:?}"
+            ));
+        }
+        lines += &line(plan, ours, route);
+        lines.push('\n');
         totals.routes += usize::from(ours.outcome == 1);
         totals.steps += ours.steps;
         totals.most_labels = totals.most_labels.max(planner.labels());
         totals.library += library_time(text.as_bytes(), plan, repeats);
         totals.rust += rust_time(&mut planner, plan, repeats);
+    }
+    if library::plan_sheet(text.as_bytes(), lines.len()).as_deref() != Some(lines.as_bytes()) {
+        return Err("the text that answers the sheet is another one".to_string());
     }
     Ok(totals)
 }

@@ -6,7 +6,7 @@ ghost use Rattle.std.specs.Prelude.{List, ℕ, Option, take, IfSome, OnOk};
 ghost use Rattle.std.specs.Io.KnownBytes.{Appends};
 ghost use Rattle.planner.specs.Tallies.{whole};
 ghost use Rattle.report.specs.declared.lines.Refused.{Refused};
-ghost use Rattle.report.specs.Reports.{Reports};
+ghost use Rattle.report.specs.Reports.{Reports, batch_room};
 
 use network::refusals::Refusal;
 use report::answers::{SHEET, plan_sheet};
@@ -30,7 +30,7 @@ fn run<R: Read + Drop, W: Write>(
     input: R,
     output: &mut W,
 ) -> io::Result<()>
-    ensures answered { OnOk result (IfSome (R.remaining input) (λ bytes. (text : List ℕ) × (end : Option Refused) × Reports (take 16384 bytes) whole text end × Appends (W.contents output.old) (W.contents output.new) text)) }
+    ensures answered { OnOk result (IfSome (R.remaining input) (λ bytes. (text : List ℕ) × (end : Option Refused) × Reports batch_room (take 16384 bytes) whole text end × Appends (W.contents output.old) (W.contents output.new) text)) }
 {
     let heap = rt.alloc();
     let mut sheet = Vec::new(heap);

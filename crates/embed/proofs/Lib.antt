@@ -1,2 +1,3 @@
-mod Loading
 mod Putting
+mod Telling
+mod Loading

@@ -1,5 +1,5 @@
 -- What a request asks as a plan, and its answer as a record. Assumes nothing.
-use Rattle.std.specs.Prelude.{ℕ, Ok, Err, Result}
+use Rattle.std.specs.Prelude.{ℕ, List, []}
 use Rattle.network.specs.declared.plans.Plan.{Plan}
 use Rattle.network.specs.declared.refusals.Refusal.{Refusal}
 use Rattle.network.specs.Refusals.{number_of, stop_number_of}
@@ -14,23 +14,27 @@ use Rattle.embed.specs.Records.{line_at_fault}
 abbrev pub plan_of : Request → Plan
 plan_of q = record { broker = 0; start = q.start; goal = q.goal; limit = q.limit }
 
--- Outcome 5: memory is short.
+-- Outcome 6: memory is short.
 abbrev pub memory_short : Answer
-memory_short = record { steps = 0; cost = 0; line = 0; delay = 0; outcome = 5; number = 0 }
+memory_short = record { steps = 0; cost = 0; line = 0; legs = 0; delay = 0; outcome = 6; number = 0 }
 
--- Outcome 4: a refusal, by its number, with the line at fault.
+-- Outcome 5: a refusal, by its number, with the line at fault.
 abbrev pub refusal_record : Refusal → Answer
-refusal_record why = record { steps = 0; cost = 0; line = line_at_fault why; delay = 0; outcome = 4; number = number_of why }
+refusal_record why = record { steps = 0; cost = 0; line = line_at_fault why; legs = 0; delay = 0; outcome = 5; number = number_of why }
 
--- What a search came to in so many steps: none is outcome 0, a route is 1, with its cost and delay, a search that is still open
--- is 2, and one that was stopped is 3, with its number.
-abbrev pub verdict_record : ℕ → Standing → Answer
-verdict_record steps standing.Fresh = record { steps = steps; cost = 0; line = 0; delay = 0; outcome = 2; number = 0 }
-verdict_record steps standing.Open = record { steps = steps; cost = 0; line = 0; delay = 0; outcome = 2; number = 0 }
-verdict_record steps (standing.Found m) = record { steps = steps; cost = m.cost; line = 0; delay = m.delay; outcome = 1; number = 0 }
-verdict_record steps standing.Exhausted = record { steps = steps; cost = 0; line = 0; delay = 0; outcome = 0; number = 0 }
-verdict_record steps (standing.Stopped why) = record { steps = steps; cost = 0; line = 0; delay = 0; outcome = 3; number = stop_number_of why }
+-- What a search came to in so many steps: a route is outcome 1, with its cost, its delay and the number of its legs, none is 2, a
+-- search that is still open is 3, and one that was stopped is 4, with its number.
+abbrev pub standing_record : ℕ → ℕ → Standing → Answer
+standing_record steps legs standing.Fresh = record { steps = steps; cost = 0; line = 0; legs = 0; delay = 0; outcome = 3; number = 0 }
+standing_record steps legs standing.Open = record { steps = steps; cost = 0; line = 0; legs = 0; delay = 0; outcome = 3; number = 0 }
+standing_record steps legs (standing.Found m) = record { steps = steps; cost = m.cost; line = 0; legs = legs; delay = m.delay; outcome = 1; number = 0 }
+standing_record steps legs standing.Exhausted = record { steps = steps; cost = 0; line = 0; legs = 0; delay = 0; outcome = 2; number = 0 }
+standing_record steps legs (standing.Stopped why) = record { steps = steps; cost = 0; line = 0; legs = 0; delay = 0; outcome = 4; number = stop_number_of why }
 
-abbrev pub answer_record : Result Verdict Refusal → Answer
-answer_record (Ok v) = verdict_record v.steps v.standing
-answer_record (Err why) = refusal_record why
+abbrev pub verdict_record : Verdict → ℕ → Answer
+verdict_record v legs = standing_record v.steps legs v.standing
+
+-- The legs that are told: those of the route, where one is found.
+abbrev pub told_legs : Standing → List ℕ → List ℕ
+told_legs (standing.Found m) legs = legs
+told_legs s legs = []

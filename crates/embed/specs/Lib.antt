@@ -1,3 +1,4 @@
+pub mod Buffers
 pub mod Records
 pub mod Answers
 pub mod Requests

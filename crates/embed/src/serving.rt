@@ -1,13 +1,16 @@
 // One plan over the network of a sheet.
-ghost use Rattle.std.specs.Prelude.{◌≡◌, IfOk};
+ghost use Rattle.std.specs.Prelude.{◌≡◌, ℕ, List, [], IfOk, OnErr};
 ghost use Rattle.network.specs.Tariffs.{total_fee};
-ghost use Rattle.planner.specs.Serves.{ground};
-ghost use Rattle.planner.specs.Desks.{desk_of, room};
+ghost use Rattle.planner.specs.Serves.{ground, Serves};
+ghost use Rattle.planner.specs.Fulfils.{Fulfils};
+ghost use Rattle.planner.specs.Desks.{desk_of, room, sites};
 ghost use Rattle.planner.specs.Tallies.{allowing};
 ghost use Rattle.embed.specs.Answers.{plan_of, memory_short, refusal_record, verdict_record};
-ghost use Rattle.embed.specs.Requests.{Served, PlanAnswered, Answers};
+ghost use Rattle.embed.specs.Buffers.{laid};
+ghost use Rattle.embed.specs.Requests.{Told, PlanAnswered, Answers};
 
 use crate::checking::LEGS;
+use crate::laying::lay;
 use network::legs::*;
 use network::limits::MOST_SITES;
 use network::plans::Plan;
@@ -32,15 +35,16 @@ pub struct Request {
     pub goal: u16,
 }
 
-// What a plan comes to, by its outcome: 0 for none, 1 for a route with its cost and delay, 2 for a search that is still
-// open, 3 for one that was stopped, by this number, 4 for a refusal, by this number, with the line of the sheet if one is
-// at fault, and 5 where memory is short. What does not apply is 0.
+// What a plan comes to, by its outcome: 1 for a route with its cost, its delay and the number of its legs, 2 for none, 3 for a search
+// that is still open, 4 for one that was stopped, by this number, 5 for a refusal, by this number, with the line of the sheet if one
+// is at fault, and 6 where memory is short. What does not apply is 0.
 #[repr(C)]
 #[derive(Clone, Copy, PartialEq, Eq, Default, Debug)]
 pub struct Answer {
     pub steps: u64,
     pub cost: u64,
     pub line: u64,
+    pub legs: usize,
     pub delay: u32,
     pub outcome: u8,
     pub number: u8,
@@ -48,12 +52,12 @@ pub struct Answer {
 
 // The outcomes, each with its number in an answer.
 enum Outcome {
-    None = 0,
     Route = 1,
-    Open = 2,
-    Stopped = 3,
-    Refused = 4,
-    MemoryShort = 5,
+    None = 2,
+    Open = 3,
+    Stopped = 4,
+    Refused = 5,
+    MemoryShort = 6,
 }
 
 // The plan that a request puts, for broker 0.
@@ -83,8 +87,9 @@ impl From<Refusal> for Answer {
     }
 }
 
+// Of a route, its legs are not counted yet.
 impl From<Verdict> for Answer {
-    ghost from_gives = { λ verdict answer. answer ≡ verdict_record verdict.steps verdict.standing };
+    ghost from_gives = { λ verdict answer. answer ≡ verdict_record verdict 0 };
 
     fn from(verdict: Verdict) -> Answer {
         let told = Answer {
@@ -131,16 +136,45 @@ const SITES: usize = MOST_SITES as usize;
 
 // Serves a request at a desk by the total fee, from a tally of its steps.
 fn serve_at(
-    desk: &mut Desk<SITES>,
+    desk: &mut Desk,
     request: Request,
     network: &Network,
     table: &[Leg],
 ) -> Result<Verdict, Refusal>
-    ensures served { Served (ground network.now table.now total_fee (room desk.old)) (plan_of request) (desk_of desk.old (allowing request.steps)) result }
+    ensures served { (left : Tally) × Serves (ground network.now table.now total_fee (room desk.old)) (plan_of request) (desk_of desk.old (allowing request.steps)) result (desk_of desk.new left) × IfOk result (λ v. Fulfils (ground network.now table.now total_fee (room desk.old)) (plan_of request) (desk_of desk.old (allowing request.steps)) v (desk_of desk.new left)) }
     ensures same_room { room desk.new ≡ room desk.old }
+    ensures same_sites { sites desk.new ≡ sites desk.old }
 {
     let mut tally = Tally::of(request.steps);
     desk.serve(request.into(), network, table, &TotalFee, &mut tally)
+}
+
+// Serves a request at a desk, and puts the legs of the route that is found into a buffer, if it is long enough.
+fn answer_at(
+    heap: Global,
+    desk: &mut Desk,
+    request: Request,
+    network: &Network,
+    table: &[Leg],
+    legs: &mut [u16],
+) -> Result<Answer, AllocError>
+    ensures told { IfOk result (λ answer. (route : List ℕ) × Told (ground network.now table.now total_fee (room desk.old)) (plan_of request) (desk_of desk.old (allowing request.steps)) answer route × (legs.new ≡ laid route legs.old)) }
+    ensures kept { OnErr result (legs.new ≡ legs.old) }
+{
+    let verdict = match serve_at(desk, request, network, table) {
+        Ok(verdict) => verdict,
+        Err(why) => return Ok(why.into()),
+    };
+    let answer = Answer::from(verdict);
+    let Standing::Found(_) = verdict.standing else {
+        return Ok(answer);
+    };
+    let route = desk.route(heap, network, table)?;
+    lay(&route, legs);
+    Ok(Answer {
+        legs: route.len(),
+        ..answer
+    })
 }
 
 // Serves a request so many times for nothing, and then once for its answer, all at one desk.
@@ -150,22 +184,21 @@ fn serve_times(
     again: u32,
     network: &Network,
     table: &[Leg],
+    legs: &mut [u16],
 ) -> Result<Answer, AllocError>
-    ensures { IfOk result (λ x. PlanAnswered network.now table.now request x) }
+    ensures told { IfOk result (λ answer. PlanAnswered network.now table.now request legs.old legs.new answer) }
+    ensures kept { OnErr result (legs.new ≡ legs.old) }
 {
-    let mut desk = Desk::new(heap, request.labels)?;
+    let mut desk = Desk::new(heap, SITES, request.labels)?;
     'servings: for _ in 0..again {
         let _ = serve_at(&mut desk, request, network, table);
     }
-    let served = serve_at(&mut desk, request, network, table);
-    Ok(served.map_or_else(Answer::from, Answer::from))
+    answer_at(heap, &mut desk, request, network, table, legs)
 }
 
-// Loads the network of a sheet, with room for 4,096 legs, and serves a request over it by the total fee: once, and before
-// that so many times for nothing, which serves to measure its speed.
-#[unsafe(no_mangle)]
-pub extern "C" fn deqibur_serve(heap: Global, sheet: &[u8], request: &Request, again: u32) -> Answer
-    ensures { Answers sheet.now request.now result }
+// Loads the network of a sheet, with room for 4,096 legs, and serves a request over it so many times for nothing, and then once.
+fn serve_sheet(heap: Global, sheet: &[u8], request: Request, again: u32, legs: &mut [u16]) -> Answer
+    ensures { Answers sheet.now request legs.old legs.new result }
 {
     let mut table = [Leg::default(); LEGS];
     let mut network = Network::default();
@@ -173,5 +206,32 @@ pub extern "C" fn deqibur_serve(heap: Global, sheet: &[u8], request: &Request, a
     if let Err(why) = reader.load(&mut network, &mut table) {
         return why.into();
     }
-    serve_times(heap, *request, again, &network, &table).unwrap_or_else(Answer::from)
+    serve_times(heap, request, again, &network, &table, legs).unwrap_or_else(Answer::from)
+}
+
+// Loads the network of a sheet, serves a request over it by the total fee, and puts the legs of the route that is found into a
+// buffer, if it is long enough.
+#[unsafe(no_mangle)]
+pub extern "C" fn deqibur_serve(
+    heap: Global,
+    sheet: &[u8],
+    request: &Request,
+    legs: &mut [u16],
+) -> Answer
+    ensures { Answers sheet.now request.now legs.old legs.new result }
+{
+    serve_sheet(heap, sheet, *request, 0, legs)
+}
+
+// The same with no buffer, and before it so many times for nothing, all in the same tables, which serves to measure its speed.
+#[unsafe(no_mangle)]
+pub extern "C" fn deqibur_serve_again(
+    heap: Global,
+    sheet: &[u8],
+    request: &Request,
+    again: u32,
+) -> Answer
+    ensures { Answers sheet.now request.now [] [] result }
+{
+    serve_sheet(heap, sheet, *request, again, &mut [])
 }

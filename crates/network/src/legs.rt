@@ -15,8 +15,8 @@ pub struct Leg {
     pub tail: u16,
     pub head: u16,
     pub fee: u32,
-    pub grade: u8,
     pub stated: u32,
+    pub grade: u8,
     pub medium: u8,
 }
 

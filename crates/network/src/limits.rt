@@ -1,4 +1,4 @@
-// The greatest numbers that a network, a leg and a plan may have. There is at least one site.
+// The greatest numbers that a network, a leg, a plan and a search may have. There is at least one site.
 
 // How many sites and how many legs a network has at the most.
 pub const MOST_SITES: u16 = 1_024;
@@ -22,3 +22,6 @@ pub const LAST_BROKER: u16 = 999;
 
 // The greatest limit of a plan, in microseconds.
 pub const MOST_LIMIT: u32 = 1_000_000;
+
+// How many label records a search has at the most.
+pub const MOST_LABELS: usize = 65_536;

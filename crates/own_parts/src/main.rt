@@ -31,7 +31,7 @@ fn print_plan(rt: &(impl Print + AllocGlobal)) -> io::Result<()> {
         goal: 3,
         limit: 9,
     };
-    let mut desk = Desk::<4>::new(rt.alloc(), ROOM)?;
+    let mut desk = Desk::new(rt.alloc(), 4, ROOM)?;
     let verdict = serve_graded(plan, &network, &table, &mut desk, &mut Tally::new());
     let legs = desk.route(rt.alloc(), &network, &table)?;
     match verdict {

@@ -24,11 +24,11 @@ use std::alloc::AllocError;
 use worksheet::records::Label;
 
 // Serves a plan by fee and grade.
-pub fn serve_graded<const SITES: usize>(
+pub fn serve_graded(
     plan: Plan,
     network: &Network,
     table: &[Leg],
-    desk: &mut Desk<SITES>,
+    desk: &mut Desk,
     tally: &mut Tally,
 ) -> Result<Verdict, Refusal>
     ensures serves { Serves (ground network.now table.now fee_and_grade (room desk.old)) plan (desk_of desk.old tally.old) result (desk_of desk.new tally.new) }

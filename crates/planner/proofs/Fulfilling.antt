@@ -123,6 +123,7 @@ module _ (g : Ground) (p : Plan) (d : Desk) (costs delays : List ℕ) (lawful : 
       exhausted_means_no_route = λ e. (tells.exhausted_means_no_route (inr e)).0 e;
       open_means_all_spent = spent;
       stopped_means_full = full;
+      enough_steps_close = tells.enough_steps_close;
       enough_room_never_stops = tells.enough_room_never_stops;
       enough_of_both_ends = tells.enough_of_both_ends;
       never_fresh = tells.never_fresh;

@@ -1,2 +1,3 @@
 mod Fulfilling
 mod Ending
+pub mod Routes

@@ -40,7 +40,8 @@ pub record Fulfils (g : Ground) (p : Plan) (d : Desk) (v : Verdict) (e : Desk) :
   pub open_means_all_spent : v.standing ≡ Open → (v.steps ≡ left_for d.tally p.broker) × (left_for e.tally p.broker ≡ 0)
   -- Stopped: a table is full. No number leads outside its table.
   pub stopped_means_full : (why : Stop) → v.standing ≡ Stopped why → Full g.capacity e.sheet.state why
-  -- With enough room the search is never stopped, and with 2 + m × (L + 1) steps left it ends.
+  -- With 2 + m × (L + 1) steps left it is not open, whatever the room. With enough room it is never stopped, so that with both it ends.
+  pub enough_steps_close : 1 + enough g.net.legs p.limit ≤ left_for d.tally p.broker → v.standing ≢ Open
   pub enough_room_never_stops : HasRoom g p d → (why : Stop) → v.standing ≢ Stopped why
   pub enough_of_both_ends : HasRoom g p d → 1 + enough g.net.legs p.limit ≤ left_for d.tally p.broker → HasEnded v
   -- A plan that was served has been searched for, and the steps of the search, no more than were left, are what the tally lost.

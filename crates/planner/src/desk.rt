@@ -7,6 +7,7 @@ ghost use Rattle.planner.specs.Fulfils.{Fulfils};
 use crate::serving::serve;
 use crate::tally::Tally;
 use network::legs::*;
+use network::limits::MOST_LABELS;
 use network::plans::Plan;
 use network::refusals::Refusal;
 use network::tariffs::Tariff;
@@ -15,34 +16,39 @@ use search::record::*;
 use std::alloc::{AllocError, Global};
 use worksheet::records::*;
 
-// Tables for `SITES` sites, label records, a queue for as many entries, and the record of the search.
+// Tables for so many sites, label records, a queue for as many entries, and the record of the search.
 #[derive(Drop)]
-pub struct Desk<const SITES: usize> {
-    costs: [u64; SITES],
-    delays: [u32; SITES],
-    least: [u32; SITES],
+pub struct Desk {
+    costs: Vec<u64>,
+    delays: Vec<u32>,
+    least: Vec<u32>,
     labels: Vec<Label>,
     queue: Heap,
     search: Search,
-    pub ghost all_costs: { length costs ≡ SITES },
-    pub ghost all_delays: { length delays ≡ SITES },
-    pub ghost all_least: { length least ≡ SITES },
+    pub ghost all_delays: { length delays.items ≡ length costs.items },
+    pub ghost all_least: { length least.items ≡ length costs.items },
     pub ghost entries: { length labels.items ≡ queue.most },
 }
 
-impl<const SITES: usize> Desk<SITES> {
-    ghost use Rattle.planner.specs.Desks.{desk_of, made, room, search_at, legs_at};
+// More label records than a search takes; it refuses any such number alike.
+const TOO_MANY: usize = MOST_LABELS + 1;
 
-    // A desk at which nothing was done, with so many label records and room for as many entries.
-    pub fn new(heap: Global, labels: usize) -> Result<Desk<SITES>, AllocError>
-        ensures room { IfOk result (λ d. room d ≡ labels) }
+impl Desk {
+    ghost use Rattle.planner.specs.Desks.{desk_of, granted, GrantedIsEnough, made, room, sites, search_at, legs_at};
+
+    // A desk at which nothing was done: tables for so many sites, so many label records, but no more than one beyond what a search
+    // takes, and room for as many entries.
+    pub fn new(heap: Global, sites: usize, labels: usize) -> Result<Desk, AllocError>
+        ensures room { IfOk result (λ d. room d ≡ granted labels) }
         ensures search { IfOk result (λ d. search_at d ≡ fresh) }
-        ensures made { IfOk result (λ d. (t : Tally) → desk_of d t ≡ made SITES labels t) }
+        ensures made { IfOk result (λ d. (t : Tally) → desk_of d t ≡ made sites (granted labels) t) }
+        ensures granted_is_enough { GrantedIsEnough labels }
     {
+        let labels = labels.min(TOO_MANY);
         Ok(Desk {
-            costs: [0; SITES],
-            delays: [0; SITES],
-            least: [0; SITES],
+            costs: Vec::from_elem(heap, 0, sites)?,
+            delays: Vec::from_elem(heap, 0, sites)?,
+            least: Vec::from_elem(heap, 0, sites)?,
             labels: Vec::from_elem(heap, Label::default(), labels)?,
             queue: Heap::new(heap, labels)?,
             search: Search::new(),
@@ -61,6 +67,7 @@ impl<const SITES: usize> Desk<SITES> {
         ensures serves { Serves (ground network.now table.now (T.terms tariff.now) (room self.old)) plan (desk_of self.old tally.old) result (desk_of self.new tally.new) }
         ensures fulfils { IfOk result (λ v. Fulfils (ground network.now table.now (T.terms tariff.now) (room self.old)) plan (desk_of self.old tally.old) v (desk_of self.new tally.new)) }
         ensures same_room { room self.new ≡ room self.old }
+        ensures same_sites { sites self.new ≡ sites self.old }
     {
         serve(
             plan,
@@ -77,7 +84,7 @@ impl<const SITES: usize> Desk<SITES> {
         )
     }
 
-    // The legs of the found route; there are none where nothing is found.
+    // The legs of the found route; there are none, and no memory is taken, where nothing is found.
     pub fn route(
         &self,
         heap: Global,
@@ -86,6 +93,9 @@ impl<const SITES: usize> Desk<SITES> {
     ) -> Result<Vec<u16>, AllocError>
         ensures { IfOk result (λ legs. legs.items ≡ legs_at network.now table.now self.now) }
     {
+        let Standing::Found(_) = self.search.verdict().standing else {
+            return Ok(Vec::new(heap));
+        };
         let mut legs = vec![in heap; 0; self.labels.len()]?;
         let traced = self.search.trace(network, table, &self.labels, &mut legs);
         legs.truncate(traced.unwrap_or(0));

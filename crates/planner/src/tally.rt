@@ -37,6 +37,6 @@ impl Tally {
     pub fn take(&mut self, broker: u16, steps: u32)
         ensures { self.new ≡ reduced self.old broker steps }
     {
-        self.steps = self.left(broker).saturating_sub(steps);
+        *self = Tally::of(self.left(broker).saturating_sub(steps));
     }
 }

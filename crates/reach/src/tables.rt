@@ -126,6 +126,8 @@ fn settle<T: Tariff>(legs: &[Leg], tariff: &T, goal: u16, costs: &mut [u64], del
 // Writes, for each site, the least cost and, by itself, the least delay of all walks to the goal, or the largest numbers
 // where there is none; the records beyond the sites stay. Read as an estimate, what it has written is that least cost and
 // least delay of each site, or none where there is no walk, and it is lawful towards the goal. Refused, it changes nothing.
+// It is compiled by itself, so that its passes over the legs have the registers for themselves.
+#[inline(never)]
 pub fn reach<T: Tariff>(
     network: &Network,
     table: &[Leg],

@@ -1,7 +1,6 @@
 -- The plans of a sheet, told one by one. Assumes nothing.
-use Rattle.std.proofs.Common.{◌≡◌, ℕ, ◌≤◌, Bool, true, leb, List, [], ◌++◌, length, drop, Some, None, Ok, Err, Option, Result, sym, refl, ap, ◌∙◌, subst, ap₂, inl, inr, append_assoc, arith}
-use Rattle.std.proofs.lemmas.List.{append-nil, take_at}
-use Rattle.std.proofs.lemmas.Bool.{cond-true, le-leb}
+use Rattle.std.proofs.Common.{◌≡◌, ℕ, ◌≤◌, Bool, true, List, [], ◌++◌, length, drop, Some, None, Ok, Err, Option, Result, sym, refl, ap, ◌∙◌, subst, ap₂, inl, inr, append_assoc}
+use Rattle.std.proofs.lemmas.List.{append-nil}
 use Rattle.network.specs.declared.plans.Plan.{Plan}
 use Rattle.network.specs.declared.refusals.Refusal.{Refusal}
 use Rattle.worksheet.specs.declared.records.Mark.{Mark}
@@ -13,10 +12,11 @@ use Rattle.search.specs.declared.record.Standing.{Standing}
 use Rattle.search.specs.declared.record.Standing.TheVariants.{Fresh, Open, Found, Exhausted, Stopped}
 use Rattle.search.specs.declared.record.Verdict.{Verdict}
 use Rattle.search.specs.Record.{search_of}
-use Rattle.search.specs.Calls.{traced, tracing, chain_laid}
+use Rattle.search.specs.Calls.{tracing}
 use Rattle.planner.specs.Serves.{Ground, Desk}
 use Rattle.planner.specs.Desks.{traced_legs}
 use Rattle.planner.specs.Fulfils.{Fulfils}
+use Rattle.planner.proofs.Routes.{route_is}
 use Rattle.report.specs.declared.lines.Refused.{Refused}
 use Rattle.report.specs.Lines.{standing_line, plan_line}
 use Rattle.report.proofs.Carrying.{carries_at, next_carries}
@@ -38,13 +38,9 @@ same_line broker steps (Found m) js ks h = ap (λ (y : List ℕ). standing_line 
 same_line broker steps Exhausted js ks h = refl
 same_line broker steps (Stopped why) js ks h = refl
 
-laid_legs : (js b : List ℕ) → length js ≤ length b → traced_legs (chain_laid (Some js) b) ≡ js
-laid_legs js b h =
-    ap traced_legs (cond-true (leb (length js) (length b)) (traced (Ok (length js)) (js ++ drop (length js) b)) _ (le-leb _ _ h)) ∙ take_at js (drop (length js) b) (length js) refl
-
 module _ (g : Ground) (p : Plan) (d : Desk) (v : Verdict) (e : Desk) (kept : Fulfils g p d v e) where
   pub line_is : (b : List ℕ) → length d.sheet.state.labels ≤ length b → plan_line p v (traced_legs (tracing g.net g.table (search_of e.sheet) e.sheet.state.labels b)) ≡ plan_line p v kept.legs
-  line_is b h = same_line p.broker v.steps v.standing _ _ (λ m f. ap traced_legs (kept.found_is_traced m f b) ∙ laid_legs kept.legs b (omega (arith, kept.found_is_short m f)))
+  line_is b h = same_line p.broker v.steps v.standing _ _ (λ m f. route_is g p d v e kept m f b h)
 
 -- Told `written` so far, the text goes on with what is told from another place, line and desk on.
 module _ (g : Ground) (sheet : List ℕ) where

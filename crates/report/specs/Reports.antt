@@ -1,5 +1,5 @@
 -- What a sheet is answered: a line for each plan in its order, up to the first refusal. Assumes nothing.
-use Rattle.std.specs.Prelude.{◌≡◌, ◌⊎◌, ℕ, true, List, [], ◌++◌, length, drop, Some, None, Ok, Err, Option, Result}
+use Rattle.std.specs.Prelude.{◌≡◌, ◌⊎◌, ℕ, true, List, [], ◌++◌, drop, replicate, Some, None, Ok, Err, Option, Result}
 use Rattle.network.specs.declared.legs.Leg.{Leg}
 use Rattle.network.specs.declared.legs.Network.{Network}
 use Rattle.network.specs.declared.plans.Plan.{Plan}
@@ -7,6 +7,7 @@ use Rattle.network.specs.declared.refusals.Place.TheVariants as place
 use Rattle.network.specs.declared.refusals.Refusal.{Refusal}
 use Rattle.network.specs.Refusals.{place_of}
 use Rattle.network.specs.Tariffs.{total_fee}
+use Rattle.network.specs.Walks.{no_leg}
 use Rattle.sheet.specs.Text.{lines}
 use Rattle.sheet.specs.Sheets.{Next, next_from, Load, loaded_from}
 use Rattle.sheet.specs.Calls.{fronted}
@@ -14,9 +15,10 @@ use Rattle.search.specs.declared.record.Verdict.{Verdict}
 use Rattle.planner.specs.declared.tally.Tally.{Tally}
 use Rattle.planner.specs.Serves.{Ground, ground, Desk, Serves}
 use Rattle.planner.specs.Fulfils.{Fulfils}
+use Rattle.planner.specs.Desks.{granted, made}
 use Rattle.report.specs.declared.lines.Refused.{Refused}
 use Rattle.report.specs.Lines.{plan_line, end_line, header}
-use Rattle.report.specs.Desks.{Prepared}
+use Rattle.report.specs.declared.answers.Room.{Room}
 
 -- A refusal, met at this line.
 abbrev pub met : Refusal → ℕ → Option Refused
@@ -47,26 +49,30 @@ pub data PlansTold (g : Ground) (sheet : List ℕ) : ℕ → ℕ → Desk → Li
       → (text : List ℕ) (end : Option Refused) → PlansTold g sheet (next_at sheet g.net.sites at line).at (next_at sheet g.net.sites at line).line e text end
       → PlansTold g sheet at line d (plan_line p v kept.legs ++ text) end
 
--- What loading the sheet comes to, with a table for 256 legs.
-abbrev pub load_of_sheet : List ℕ → Load
-load_of_sheet sheet = loaded_from 256 (lines sheet)
+-- What loading the sheet comes to, with a table for so many legs.
+abbrev pub load_of_sheet : ℕ → List ℕ → Load
+load_of_sheet legs sheet = loaded_from legs (lines sheet)
 
--- The plans are served by the total fee, at a desk that was prepared with this tally and has room for 1,024 entries.
-pub record DeskTold (net : Network) (table : List Leg) (tally : Tally) (sheet : List ℕ) (at line : ℕ) (text : List ℕ) (end : Option Refused) : Type 0 where
-  pub at_desk : Desk
-  pub prepared : Prepared tally at_desk
-  pub told : PlansTold (ground net table total_fee 1024) sheet at line at_desk text end
+-- The leg table after it: the legs that were read, at the front of blank ones.
+abbrev pub table_of_sheet : ℕ → List ℕ → List Leg
+table_of_sheet legs sheet = fronted (load_of_sheet legs sheet).legs (replicate legs no_leg)
 
--- How a sheet's plans are answered, with this tally at the start: by no line where the load is refused, at the line where it then
--- stands and which it carries; else as the plans after the load are, with the legs that it read at the front of the leg table.
-pub data SheetTold (sheet : List ℕ) (tally : Tally) : List ℕ → Option Refused → Type 0 where
-  load_refused : (why : Refusal) → (load_of_sheet sheet).outcome ≡ Err why → place_of why ≡ Some (place.Line (load_of_sheet sheet).line) → SheetTold sheet tally [] (met why (load_of_sheet sheet).line)
-  loaded : (net : Network) → (load_of_sheet sheet).outcome ≡ Ok net → (table : List Leg) → length table ≡ 256 → (text : List ℕ) (end : Option Refused)
-      → DeskTold net (fronted (load_of_sheet sheet).legs table) tally sheet (load_of_sheet sheet).at (load_of_sheet sheet).line text end
-      → SheetTold sheet tally text end
+-- The room of the batch program.
+abbrev pub batch_room : Room
+batch_room = record { sites = 64; legs = 256; labels = 1024 }
+
+-- How a sheet's plans are answered with the room r, with this tally at the start: by no line where the load is refused, at the line
+-- where it then stands and which it carries; else as the plans after the load are, served by the total fee at a desk of this room as
+-- it is made.
+pub data SheetTold (r : Room) (sheet : List ℕ) (tally : Tally) : List ℕ → Option Refused → Type 0 where
+  load_refused : (why : Refusal) → (load_of_sheet r.legs sheet).outcome ≡ Err why → place_of why ≡ Some (place.Line (load_of_sheet r.legs sheet).line)
+      → SheetTold r sheet tally [] (met why (load_of_sheet r.legs sheet).line)
+  loaded : (net : Network) → (load_of_sheet r.legs sheet).outcome ≡ Ok net → (text : List ℕ) (end : Option Refused)
+      → PlansTold (ground net (table_of_sheet r.legs sheet) total_fee (granted r.labels)) sheet (load_of_sheet r.legs sheet).at (load_of_sheet r.legs sheet).line (made r.sites (granted r.labels) tally) text end
+      → SheetTold r sheet tally text end
 
 -- The whole text: the header, the lines of the plans, and the refusal that ended them, if one did.
-pub record Reports (sheet : List ℕ) (tally : Tally) (text : List ℕ) (end : Option Refused) : Type 0 where
+pub record Reports (r : Room) (sheet : List ℕ) (tally : Tally) (text : List ℕ) (end : Option Refused) : Type 0 where
   pub plans : List ℕ
-  pub told : SheetTold sheet tally plans end
+  pub told : SheetTold r sheet tally plans end
   pub lines_are : text ≡ (header ++ plans) ++ end_line end

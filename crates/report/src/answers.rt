@@ -5,7 +5,7 @@ ghost use Rattle.planner.specs.Serves.{ground};
 ghost use Rattle.planner.specs.Desks.{desk_of, room};
 ghost use Rattle.planner.specs.Tallies.{whole};
 ghost use Rattle.sheet.specs.Calls.{moved, next_of};
-ghost use Rattle.report.specs.Reports.{NextServed, PlansTold, SheetTold, Reports};
+ghost use Rattle.report.specs.Reports.{NextServed, PlansTold, SheetTold, Reports, batch_room};
 
 use crate::lines::{Refused, push_end, push_plan};
 use network::legs::*;
@@ -18,21 +18,21 @@ use search::record::Verdict;
 use sheet::reader::Reader;
 use std::alloc::{AllocError, Global};
 
-// How many sites the desk has tables for.
-const SITES: usize = 64;
-
-// How many legs there is room for.
-const LEGS: usize = 256;
-
-// How many label records the desk has, and entries it has room for.
-const LABELS: usize = 1_024;
+// The room that a sheet is planned with: tables for so many sites and for so many legs, and so many label records, with a queue for
+// as many entries.
+#[derive(Clone, Copy, PartialEq, Eq, Debug)]
+pub struct Room {
+    pub sites: usize,
+    pub legs: usize,
+    pub labels: usize,
+}
 
 // Reads the next plan and serves it at the desk by the total fee, or tells that none is left.
 fn serve_next(
     reader: &mut Reader<'_>,
     network: &Network,
     table: &[Leg],
-    desk: &mut Desk<SITES>,
+    desk: &mut Desk,
     tally: &mut Tally,
 ) -> Result<Option<(Plan, Verdict)>, Refusal>
     ensures served { NextServed (ground network.now table.now total_fee (room desk.old)) (next_of network.now.sites reader.old) (desk_of desk.old tally.old) result (desk_of desk.new tally.new) }
@@ -53,13 +53,12 @@ fn tell_plans(
     reader: &mut Reader<'_>,
     network: &Network,
     table: &[Leg],
-    desk: &mut Desk<SITES>,
+    desk: &mut Desk,
     tally: &mut Tally,
     text: &mut Vec<u8>,
 ) -> Result<Option<Refused>, AllocError>
     requires loaded { reader.old.loaded ≡ true }
-    requires room { room desk.old ≡ 1024 }
-    ensures { IfOk result (λ end. (more : List ℕ) × (text.new.items ≡ text.old.items ++ more) × PlansTold (ground network.now table.now total_fee 1024) reader.old.sheet.now reader.old.place reader.old.line (desk_of desk.old tally.old) more end) }
+    ensures { IfOk result (λ end. (more : List ℕ) × (text.new.items ≡ text.old.items ++ more) × PlansTold (ground network.now table.now total_fee (room desk.old)) reader.old.sheet.now reader.old.place reader.old.line (desk_of desk.old tally.old) more end) }
 {
     'plans: loop {
         let line = reader.line();
@@ -78,19 +77,20 @@ fn tell_plans(
 fn tell_sheet(
     heap: Global,
     sheet: &[u8],
+    room: Room,
     mut tally: Tally,
     text: &mut Vec<u8>,
 ) -> Result<Option<Refused>, AllocError>
-    ensures { IfOk result (λ end. (more : List ℕ) × (text.new.items ≡ text.old.items ++ more) × SheetTold sheet.now tally more end) }
+    ensures { IfOk result (λ end. (more : List ℕ) × (text.new.items ≡ text.old.items ++ more) × SheetTold room sheet.now tally more end) }
 {
-    let mut table = [Leg::default(); LEGS];
+    let mut table = Vec::from_elem(heap, Leg::default(), room.legs)?;
     let mut network = Network::default();
     let mut reader = Reader::new(sheet);
     if let Err(why) = reader.load(&mut network, &mut table) {
         let line = reader.line();
         return Ok(Some(Refused { why, line }));
     }
-    let mut desk = Desk::new(heap, LABELS)?;
+    let mut desk = Desk::new(heap, room.sites, room.labels)?;
     tell_plans(
         heap,
         &mut reader,
@@ -109,24 +109,36 @@ pub struct Report {
     pub refused: Option<Refused>,
 }
 
-// How many bytes of the input are read as the sheet.
-pub const SHEET: usize = 16_384;
-
-// Answers the plans of a sheet, which are the first bytes of the input, one after another from one tally: the header, a line
-// for each plan, and a last line where something is refused.
-pub fn plan_from(heap: Global, input: &[u8], tally: Tally) -> Result<Report, AllocError>
-    ensures { IfOk result (λ x. Reports (take 16384 input.now) tally x.text.items x.refused) }
+// Answers the plans of a sheet one after another from one tally, with this room: the header, a line for each plan, and a last line
+// where something is refused.
+pub fn plan_within(
+    heap: Global,
+    sheet: &[u8],
+    room: Room,
+    tally: Tally,
+) -> Result<Report, AllocError>
+    ensures { IfOk result (λ x. Reports room sheet.now tally x.text.items x.refused) }
 {
-    let sheet = &input[..input.len().min(SHEET)];
     let mut text = Vec::from_slice(heap, b"result,broker,steps,cost,delay,legs\n")?;
-    let refused = tell_sheet(heap, sheet, tally, &mut text)?;
+    let refused = tell_sheet(heap, sheet, room, tally, &mut text)?;
     push_end(&mut text, refused)?;
     Ok(Report { text, refused })
 }
 
-// The same from a whole tally.
+// How many bytes of its input the batch program reads as the sheet.
+pub const SHEET: usize = 16_384;
+
+// The room of the batch program.
+pub const BATCH: Room = Room {
+    sites: 64,
+    legs: 256,
+    labels: 1_024,
+};
+
+// Answers the plans of the sheet that the first bytes of the input are, from a whole tally, with the room of the batch program.
 pub fn plan_sheet(heap: Global, input: &[u8]) -> Result<Report, AllocError>
-    ensures { IfOk result (λ x. Reports (take 16384 input.now) whole x.text.items x.refused) }
+    ensures { IfOk result (λ x. Reports batch_room (take 16384 input.now) whole x.text.items x.refused) }
 {
-    plan_from(heap, input, Tally::new())
+    let sheet = &input[..input.len().min(SHEET)];
+    plan_within(heap, sheet, BATCH, Tally::new())
 }

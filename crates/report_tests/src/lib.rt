@@ -4,7 +4,7 @@
 #[cfg(test)]
 mod tests {
     use planner::tally::Tally;
-    use report::answers::{plan_from, plan_sheet};
+    use report::answers::{BATCH, Room, plan_sheet, plan_within};
     use std::alloc::{AllocError, Global};
     use std::process::Abort;
     use std::test::Fail;
@@ -25,17 +25,33 @@ mod tests {
         }
     }
 
-    // Whether a sheet is answered by the header and these lines.
+    // The header, and these lines.
+    fn answer(heap: Global, lines: &[u8]) -> Result<Vec<u8>, AllocError> {
+        let mut text = Vec::from_slice(heap, b"result,broker,steps,cost,delay,legs\n")?;
+        text.extend_from_slice(lines)?;
+        Ok(text)
+    }
+
+    // Whether a sheet is answered by the header and these lines, with this room.
+    fn is_answered_within(
+        heap: Global,
+        sheet: &[u8],
+        room: Room,
+        steps: u32,
+        lines: &[u8],
+    ) -> Result<bool, AllocError> {
+        let report = plan_within(heap, sheet, room, Tally::of(steps))?;
+        Ok(report.text == answer(heap, lines)?)
+    }
+
+    // The same with the room of the batch program.
     fn is_answered(
         heap: Global,
         sheet: &[u8],
         steps: u32,
         lines: &[u8],
     ) -> Result<bool, AllocError> {
-        let report = plan_from(heap, sheet, Tally::of(steps))?;
-        let mut text = Vec::from_slice(heap, b"result,broker,steps,cost,delay,legs\n")?;
-        text.extend_from_slice(lines)?;
-        Ok(report.text == text)
+        is_answered_within(heap, sheet, BATCH, steps, lines)
     }
 
     fn run(rt: &impl Abort, heap: Global, cases: &[Example<'_>]) -> Result<(), Fail> {
@@ -103,10 +119,9 @@ mod tests {
         sheet.extend_from_slice(b"leg,2,3,0,0,100000,0\nleg,2,3,1000,0,0,0\n")?;
         sheet.extend_from_slice(&b"plan,7,0,3,99999\n".repeat(heap, 100)?)?;
         sheet.extend_from_slice(b"plan,8,3,3,0\nplan,7,4,3,0\n")?;
-        let mut text = Vec::from_slice(heap, b"result,broker,steps,cost,delay,legs\n")?;
-        text.extend_from_slice(&b"route,7,502,1000,479,0,20,45\n".repeat(heap, 99)?)?;
-        text.extend_from_slice(b"open,7,302\nopen,8,0\nrefuse,6,149\n")?;
-        assert!(rt; plan_sheet(heap, &sheet)?.text == text);
+        let mut lines = b"route,7,502,1000,479,0,20,45\n".repeat(heap, 99)?;
+        lines.extend_from_slice(b"open,7,302\nopen,8,0\nrefuse,6,149\n")?;
+        assert!(rt; plan_sheet(heap, &sheet)?.text == answer(heap, &lines)?);
         Ok(())
     }
 
@@ -159,6 +174,28 @@ mod tests {
         assert!(rt; is_answered(heap, &sheet, 9, b"route,3,2,1,1,0\n")?);
         more.extend_from_slice(b"leg,0,1,1,1,1,0\nplan,3,0,1,1\n")?;
         assert!(rt; is_answered(heap, &more, 9, b"refuse,7,258\n")?);
+        let room = Room { legs: 257, ..BATCH };
+        assert!(rt; is_answered_within(heap, &more, room, 9, b"route,3,2,1,1,0\n")?);
+        Ok(())
+    }
+
+    // With tables for one site more, a network of 65 sites finds room. A search has 1 to 65,536 labels: with none, and with any
+    // number above, each plan is refused.
+    #[test]
+    fn other_room(rt: HostRuntime) -> Result<(), Fail> {
+        let heap = rt.alloc();
+        let sheet = b"network,65\nplan,1,64,64,5\n";
+        let sites = Room { sites: 65, ..BATCH };
+        assert!(rt; is_answered_within(heap, sheet, sites, 9, b"route,1,1,0,0\n")?);
+        for labels in [0, 65_537, usize::MAX] {
+            let room = Room { labels, ..sites };
+            assert!(rt; is_answered_within(heap, sheet, room, 9, b"refuse,11,2\n")?);
+        }
+        let most = Room {
+            labels: 65_536,
+            ..sites
+        };
+        assert!(rt; is_answered_within(heap, sheet, most, 9, b"route,1,1,0,0\n")?);
         Ok(())
     }
 
@@ -192,9 +229,9 @@ mod tests {
         let mut lines = b"route,1,1,0,0\n".repeat(heap, 1259)?;
         let mut even = Vec::from_slice(heap, b"network,1\nplan,1,0,0,1000000\nplan,1,0,0,10\n")?;
         even.extend_from_slice(&b"plan,1,0,0,0\n".repeat(heap, 1300)?)?;
-        assert!(rt; is_answered(heap, &even, 50_000, &lines)?);
+        assert!(rt; plan_sheet(heap, &even)?.text == answer(heap, &lines)?);
         lines.extend_from_slice(b"refuse,1,1261\n")?;
-        assert!(rt; is_answered(heap, &sheet, 50_000, &lines)?);
+        assert!(rt; plan_sheet(heap, &sheet)?.text == answer(heap, &lines)?);
         Ok(())
     }
 }

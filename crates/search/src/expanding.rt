@@ -1,6 +1,6 @@
 // The expansion of a label: each leg from its site is tried.
-ghost use Rattle.std.specs.Prelude.{◌≡◌, ◌≤◌, true, [], length};
-ghost use Rattle.std.specs.List.{list_all};
+ghost use Rattle.std.specs.Prelude.{◌≡◌, ◌≤◌, ◌<◌, ◌+◌, ◌^◌, ◌==◌, true, [], length};
+ghost use Rattle.std.specs.List.{list_all, list_any};
 ghost use Rattle.network.specs.Checks.{legs_of};
 ghost use Rattle.network.specs.Walks.{graph};
 ghost use Rattle.worksheet.specs.Steps.{due_of, added, expand as expand_of, is_open, leg_inside};
@@ -22,6 +22,16 @@ use worksheet::records::*;
 pub(crate) struct Taken {
     pub number: usize,
     pub label: Label,
+}
+
+// Legs are asked in groups of this size whether one of them leaves a site: so many comparisons in a row, with no loop.
+const GROUP: usize = 16;
+
+// Whether a leg of the group leaves the site.
+fn leaves(group: &[Leg; GROUP], site: u16) -> bool
+    ensures { result ≡ list_any (λ leg. leg.tail == site) group.now }
+{
+    group.iter().any(|leg| leg.tail == site)
 }
 
 impl Search {
@@ -94,9 +104,37 @@ impl Search {
         Ok(())
     }
 
-    // Tries each leg from the label's site in order, until there is no room for a label that is due: it answers why the
-    // search stops.
+    // Tries each of these legs, whose numbers begin at `first`, in order, until there is no room for a label that is due: it
+    // answers why the search stops.
     #[tactic(auto, using(crate::proofs::Trying::leg_by_leg))]
+    fn try_each<Q: Queue, T: Tariff, E: Estimate>(
+        &mut self,
+        from: Taken,
+        first: usize,
+        legs: &[Leg],
+        lent: &Lent<T, E>,
+        labels: &mut [Label],
+        least: &[u32],
+        queue: &mut Q,
+    ) -> Result<(), Stop>
+        requires going { is_open self.old.phase ≡ true }
+        requires few { first + length legs.now < 2 ^ 16 }
+        requires inside { list_all (leg_inside (length least.now) from.label.site) legs.now ≡ true }
+        ensures after { in_phase_by (λ _. self.old.phase) result (worksheet self.new labels.new least.now (Q.bag queue.new)) ≡ with_state (worksheet self.old labels.old least.now (Q.bag queue.old)) (expand_of (problem_of (setting_of T.terms E.at lent.now labels.old least.now (Q.room queue.old)) (worksheet self.old labels.old least.now (Q.bag queue.old))) from.number from.label first legs.now (worksheet self.old labels.old least.now (Q.bag queue.old)).state) }
+        ensures same_phase { self.new.phase ≡ self.old.phase }
+        ensures same_room { Q.room queue.new ≡ Q.room queue.old }
+    {
+        for (i, leg) in legs.iter().enumerate() {
+            if let Some(due) = self.due(from, (first + i) as u16, leg, lent, least) {
+                self.add(due, labels, queue)?;
+            }
+        }
+        Ok(())
+    }
+
+    // Tries each leg from the label's site in order, until there is no room for a label that is due: it answers why the
+    // search stops. A group of legs that all leave other sites, as most do, is passed over.
+    #[tactic(auto, using(crate::proofs::Trying::group_by_group))]
     pub(crate) fn expand<Q: Queue, T: Tariff, E: Estimate>(
         &mut self,
         from: Taken,
@@ -111,12 +149,12 @@ impl Search {
         ensures same_phase { self.new.phase ≡ self.old.phase }
         ensures same_room { Q.room queue.new ≡ Q.room queue.old }
     {
-        let legs = lent.network.legs_in(lent.table);
-        for (i, leg) in legs.iter().enumerate() {
-            if let Some(due) = self.due(from, i as u16, leg, lent, least) {
-                self.add(due, labels, queue)?;
+        let (groups, rest) = lent.network.legs_in(lent.table).as_chunks::<GROUP>();
+        for (i, group) in groups.iter().enumerate() {
+            if leaves(group, from.label.site) {
+                self.try_each(from, i * GROUP, group, lent, labels, least, queue)?;
             }
         }
-        Ok(())
+        self.try_each(from, groups.len() * GROUP, rest, lent, labels, least, queue)
     }
 }

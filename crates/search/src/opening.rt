@@ -12,14 +12,11 @@ use crate::lent::Lent;
 use crate::record::{Action, Search};
 use network::estimates::{Bound, Estimate};
 use network::legs::*;
-use network::limits::MOST_LIMIT;
+use network::limits::{MOST_LABELS, MOST_LIMIT};
 use network::refusals::Refusal;
 use network::tariffs::Tariff;
 use queue::interface::Queue;
 use worksheet::records::*;
-
-// How many label records a search may have at the most.
-const MOST_LABELS: usize = 65_536;
 
 // Start and goal are sites of the network.
 fn ends_fit(network: &Network, query: Query) -> bool

@@ -31,7 +31,7 @@ fn found(cost: u64, delay: u32) -> Result<Verdict, Refusal> {
 fn plans_from_one_tally(rt: HostRuntime) -> Result<(), Fail> {
     let table = legs_a();
     let network = network_a();
-    let mut desk = Desk::<4>::new(rt.alloc(), 8)?;
+    let mut desk = Desk::new(rt.alloc(), 4, 8)?;
     let mut tally = Tally::of(8);
 
     let cheapest = desk.serve(from_0_to_3(9), &network, &table, &TotalFee, &mut tally);
@@ -75,7 +75,7 @@ fn plans_from_one_tally(rt: HostRuntime) -> Result<(), Fail> {
 fn one_site_too_many(rt: HostRuntime) -> Result<(), Fail> {
     let table = legs_a();
     let network = network_a();
-    let mut desk = Desk::<3>::new(rt.alloc(), 8)?;
+    let mut desk = Desk::new(rt.alloc(), 3, 8)?;
     let mut tally = Tally::of(8);
     let refused = desk.serve(from_0_to_3(9), &network, &table, &TotalFee, &mut tally);
     assert_eq!(rt; refused, Err(Refusal::Room));

@@ -9,9 +9,9 @@ abbrev pub invariant-plans : goal.invariant-plans
 invariant-plans l = record {
   loaded : l.reader.loaded ≡ true;
   same_sheet : l.reader.sheet.now ≡ l.initial.reader.sheet.now;
-  room : room l.desk ≡ 1024;
+  same_room : room l.desk ≡ room l.initial.desk;
   told : (written : List ℕ) × (vec_items l.text ≡ vec_items l.initial.text ++ written)
-      × Leads (ground l.network l.table total_fee 1024) l.initial.reader.sheet.now l.initial.reader.place l.initial.reader.line (desk_of l.initial.desk l.initial.tally) written l.reader.place l.reader.line (desk_of l.desk l.tally);
+      × Leads (ground l.network l.table total_fee (room l.initial.desk)) l.initial.reader.sheet.now l.initial.reader.place l.initial.reader.line (desk_of l.initial.desk l.initial.tally) written l.reader.place l.reader.line (desk_of l.desk l.tally);
 }
 
 abbrev pub decreases-plans : goal.decreases-plans
