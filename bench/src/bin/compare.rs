@@ -13,123 +13,32 @@ const ROUNDS: usize = 5;
 /// More steps than any plan needs with room for 65,536 labels: every step but the last takes a label.
 const STEPS: u32 = 1_000_000;
 
-/// The proved library, by its declarations in `include/deqibur.h`.
-mod library {
-    use super::*;
+#[path = "../../../include/deqibur.rs"]
+mod library;
 
-    #[repr(C)]
-    pub struct Request {
-        pub labels: usize,
-        pub limit: u32,
-        pub steps: u32,
-        pub start: u16,
-        pub goal: u16,
+/// A plan as a request, with the room and the steps of this benchmark.
+fn request(plan: &Plan) -> library::Request {
+    library::Request {
+        labels: LABELS,
+        limit: plan.limit,
+        steps: STEPS,
+        start: plan.start,
+        goal: plan.goal,
     }
+}
 
-    #[repr(C)]
-    #[derive(Clone, Copy, Debug, PartialEq, Eq)]
-    pub struct Answer {
-        pub steps: u64,
-        pub cost: u64,
-        pub line: u64,
-        pub legs: usize,
-        pub delay: u32,
-        pub outcome: u8,
-        pub number: u8,
-    }
-
-    #[repr(C)]
-    pub struct Allowance {
-        pub sites: usize,
-        pub legs: usize,
-        pub labels: usize,
-        pub steps: u32,
-    }
-
-    #[repr(C)]
-    #[derive(Clone, Copy, Debug)]
-    pub struct Written {
-        pub length: usize,
-        pub code: u8,
-    }
-
-    #[link(name = "embed", kind = "static")]
-    #[link(name = "libc_c", kind = "static")]
-    extern "C" {
-        fn deqibur_plan_sheet(
-            sheet: *const u8,
-            sheet_len: usize,
-            allowance: *const Allowance,
-            output: *mut u8,
-            output_len: usize,
-        ) -> Written;
-        fn deqibur_serve(
-            sheet: *const u8,
-            sheet_len: usize,
-            request: *const Request,
-            legs: *mut u16,
-            legs_len: usize,
-        ) -> Answer;
-        fn deqibur_serve_again(
-            sheet: *const u8,
-            sheet_len: usize,
-            request: *const Request,
-            again: u32,
-        ) -> Answer;
-    }
-
-    fn request(plan: &Plan) -> Request {
-        Request {
-            labels: LABELS,
-            limit: plan.limit,
-            steps: STEPS,
-            start: plan.start,
-            goal: plan.goal,
-        }
-    }
-
-    /// Serves a plan over the network of a sheet, and puts the legs of its route into the buffer.
-    pub fn serve(sheet: &[u8], plan: &Plan, legs: &mut [u16]) -> Answer {
-        // SAFETY: the pointers lead to what they are said to for the time of the call, which keeps none of them.
-        unsafe {
-            deqibur_serve(
-                sheet.as_ptr(),
-                sheet.len(),
-                &request(plan),
-                legs.as_mut_ptr(),
-                legs.len(),
-            )
-        }
-    }
-
-    /// The text that answers a sheet, if there is room for it.
-    pub fn plan_sheet(sheet: &[u8], room: usize) -> Option<Vec<u8>> {
-        let allowance = Allowance {
-            sites: 1024,
-            legs: 4096,
-            labels: LABELS,
-            steps: u32::MAX,
-        };
-        let mut text = vec![0; room];
-        // SAFETY: the pointers lead to what they are said to for the time of the call, which keeps none of them.
-        let written = unsafe {
-            deqibur_plan_sheet(
-                sheet.as_ptr(),
-                sheet.len(),
-                &allowance,
-                text.as_mut_ptr(),
-                text.len(),
-            )
-        };
-        text.truncate(written.length);
-        (written.code == 0).then_some(text)
-    }
-
-    /// Serves it once and then `again` times more.
-    pub fn serve_again(sheet: &[u8], plan: &Plan, again: u32) -> Answer {
-        // SAFETY: both pointers lead to what they are said to for the time of the call, which keeps neither of them.
-        unsafe { deqibur_serve_again(sheet.as_ptr(), sheet.len(), &request(plan), again) }
-    }
+/// The text with which the library answers a sheet, if it has this length at the most.
+fn sheet_text(sheet: &[u8], room: usize) -> Option<Vec<u8>> {
+    let allowance = library::Allowance {
+        sites: 1024,
+        legs: 4096,
+        labels: LABELS,
+        steps: u32::MAX,
+    };
+    let mut text = vec![0; room];
+    let written = library::plan_sheet(sheet, &allowance, &mut text);
+    text.truncate(written.length);
+    (written.code == 0).then_some(text)
 }
 
 /// What the library answers where the planner in Rust answers this, with a route of so many legs.
@@ -196,8 +105,10 @@ fn timed<T>(work: impl FnOnce() -> T) -> Duration {
 /// The time that the library takes for `repeats` servings of a plan: a call that serves the plan so many times more takes that
 /// much longer, everything else being the same.
 fn library_time(sheet: &[u8], plan: &Plan, repeats: u32) -> Duration {
-    let more = least(|| timed(|| library::serve_again(black_box(sheet), black_box(plan), repeats)));
-    let once = least(|| timed(|| library::serve_again(black_box(sheet), black_box(plan), 0)));
+    let asked = request(plan);
+    let more =
+        least(|| timed(|| library::serve_again(black_box(sheet), black_box(&asked), repeats)));
+    let once = least(|| timed(|| library::serve_again(black_box(sheet), black_box(&asked), 0)));
     more.saturating_sub(once)
 }
 
@@ -230,8 +141,8 @@ fn compare(text: &str, sheet: &Sheet, repeats: u32) -> Result<Totals, String> {
     let mut lines = String::from("result,broker,steps,cost,delay,legs\n");
     for (i, plan) in sheet.plans.iter().enumerate() {
         let answer = planner.serve(plan);
-        let theirs = library::serve(text.as_bytes(), plan, &mut legs);
-        let again = library::serve_again(text.as_bytes(), plan, repeats);
+        let theirs = library::serve(text.as_bytes(), &request(plan), &mut legs);
+        let again = library::serve_again(text.as_bytes(), &request(plan), repeats);
         let ours = expected(answer, theirs.legs);
         if theirs != ours || again != ours {
             return Err(format!(
@@ -252,7 +163,7 @@ fn compare(text: &str, sheet: &Sheet, repeats: u32) -> Result<Totals, String> {
         totals.library += library_time(text.as_bytes(), plan, repeats);
         totals.rust += rust_time(&mut planner, plan, repeats);
     }
-    if library::plan_sheet(text.as_bytes(), lines.len()).as_deref() != Some(lines.as_bytes()) {
+    if sheet_text(text.as_bytes(), lines.len()).as_deref() != Some(lines.as_bytes()) {
         return Err("the text that answers the sheet is another one".to_string());
     }
     Ok(totals)

@@ -5,35 +5,18 @@ use deqibur_bench::check::{check, Check};
 use deqibur_bench::draws::Draws;
 use std::process::ExitCode;
 
-/// The proved library, by its declarations in `include/deqibur.h`.
-mod library {
-    use deqibur_bench::check::Check;
+#[path = "../../../include/deqibur.rs"]
+mod library;
 
-    #[repr(C)]
-    struct SheetCheck {
-        plans: u64,
-        line: u64,
-        sites: u16,
-        legs: u16,
-        number: u8,
-    }
-
-    #[link(name = "embed", kind = "static")]
-    #[link(name = "libc_c", kind = "static")]
-    extern "C" {
-        fn deqibur_check_sheet(sheet: *const u8, sheet_len: usize) -> SheetCheck;
-    }
-
-    pub fn check(sheet: &[u8]) -> Check {
-        // SAFETY: the pointer leads to so many bytes for the time of the call.
-        let found = unsafe { deqibur_check_sheet(sheet.as_ptr(), sheet.len()) };
-        Check {
-            plans: found.plans,
-            line: found.line,
-            sites: found.sites,
-            legs: found.legs,
-            number: found.number,
-        }
+/// What the library says of a sheet.
+fn library_check(sheet: &[u8]) -> Check {
+    let found = library::check_sheet(sheet);
+    Check {
+        plans: found.plans,
+        line: found.line,
+        sites: found.sites,
+        legs: found.legs,
+        number: found.number,
     }
 }
 
@@ -73,7 +56,7 @@ fn run(path: &str, count: &str) -> Result<[u32; 8], String> {
         for _ in 0..draws.between(0, 3) {
             damage(&mut draws, &mut sheet);
         }
-        let (ours, theirs): (Check, Check) = (check(&sheet), library::check(&sheet));
+        let (ours, theirs): (Check, Check) = (check(&sheet), library_check(&sheet));
         if ours != theirs {
             let text = String::from_utf8_lossy(&sheet);
             return Err(format!(
