@@ -37,7 +37,8 @@ impl Desk {
     ghost use Rattle.planner.specs.Desks.{desk_of, granted, GrantedIsEnough, made, room, sites, search_at, legs_at};
 
     // A desk at which nothing was done: tables for so many sites, so many label records, but no more than one beyond what a search
-    // takes, and room for as many entries.
+    // takes, and room for as many entries. It is made where it stays: a desk that is handed on is a large record to copy.
+    #[inline(always)]
     pub fn new(heap: Global, sites: usize, labels: usize) -> Result<Desk, AllocError>
         ensures room { IfOk result (λ d. room d ≡ granted labels) }
         ensures search { IfOk result (λ d. search_at d ≡ fresh) }
@@ -93,10 +94,12 @@ impl Desk {
     ) -> Result<Vec<u16>, AllocError>
         ensures { IfOk result (λ legs. legs.items ≡ legs_at network.now table.now self.now) }
     {
-        let Standing::Found(_) = self.search.verdict().standing else {
+        let Phase::Found(found, _) = self.search.phase else {
             return Ok(Vec::new(heap));
         };
-        let mut legs = vec![in heap; 0; self.labels.len()]?;
+        // The chain to a label has no more legs than labels stand before it.
+        let most = found.min(self.labels.len());
+        let mut legs = vec![in heap; 0; most]?;
         let traced = self.search.trace(network, table, &self.labels, &mut legs);
         legs.truncate(traced.unwrap_or(0));
         Ok(legs)

@@ -84,8 +84,9 @@ fn relax<T: Tariff>(leg: &Leg, tariff: &T, costs: &mut [u64], delays: &mut [u32]
     }
     let price = tariff.price(leg.fee, leg.grade);
     let cost = tariff.join(price, costs[head]);
-    let delay = u32::try_from(leg.delay() + u64::from(onward)).unwrap_or(u32::MAX);
-    let sooner = lower(delays, tail, delay);
+    let delay = leg.delay() + u64::from(onward);
+    // A delay that is not below the largest number lowers no record.
+    let sooner = delay < u64::from(u32::MAX) && lower(delays, tail, delay as u32);
     let cheaper = lower(costs, tail, cost);
     sooner || cheaper
 }

@@ -1,5 +1,5 @@
 -- The lines that answer plans. Assumes nothing.
-use Rattle.std.specs.Prelude.{◌≡◌, ℕ, List, [], ◌∷◌, ◌++◌, Some, None, codes, Option, decimal, map}
+use Rattle.std.specs.Prelude.{ℕ, List, [], ◌∷◌, ◌++◌, Some, None, codes, Option}
 use Rattle.network.specs.declared.plans.Plan.{Plan}
 use Rattle.network.specs.Refusals.{number_of, stop_number_of}
 use Rattle.search.specs.declared.record.Standing.{Standing}
@@ -7,10 +7,6 @@ use Rattle.search.specs.declared.record.Standing.TheVariants as standing
 use Rattle.search.specs.declared.record.Verdict.{Verdict}
 use Rattle.sheet.specs.Writing.{listed}
 use Rattle.report.specs.declared.lines.Refused.{Refused}
-
--- The items print the numbers ns in decimal, one each.
-abbrev pub Print : {T : Type 0} → (T → Option (List ℕ)) → List T → List ℕ → Type 0
-Print output xs ns = map output xs ≡ map (λ n. Some (decimal n)) ns
 
 -- A word, numbers in decimal, each after a comma, and the end byte.
 abbrev pub text_line : List ℕ → List ℕ → List ℕ

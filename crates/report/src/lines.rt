@@ -1,21 +1,50 @@
 // The lines that answer plans.
-ghost use Rattle.std.specs.Prelude.{◌≡◌, ℕ, List, ◌++◌, OnOk};
+ghost use Rattle.std.specs.Prelude.{◌≡◌, ◌∷◌, ◌++◌, decimal, OnOk};
 ghost use Rattle.sheet.specs.Writing.{listed};
-ghost use Rattle.report.specs.Lines.{Print, text_line, plan_line, end_line};
+ghost use Rattle.report.specs.Lines.{text_line, plan_line, end_line};
 
 use network::plans::Plan;
 use network::refusals::Refusal;
 use search::record::*;
 use std::alloc::AllocError;
-use std::fmt::Display;
 
-// Numbers in decimal, each after a comma.
-fn push_fields<T: Display>(text: &mut Vec<u8>, numbers: &[T]) -> Result<(), AllocError>
-    ensures { OnOk result ((ns : List ℕ) → Print T.output numbers.now ns → text.new.items ≡ text.old.items ++ listed ns) }
+// A number in decimal.
+fn push_number(text: &mut Vec<u8>, n: u64) -> Result<(), AllocError>
+    ensures { OnOk result (text.new.items ≡ text.old.items ++ decimal n) }
+{
+    if n < 10 {
+        text.push(b'0' + n as u8)?;
+        return Ok(());
+    }
+    push_number(text, n / 10)?;
+    text.push(b'0' + (n % 10) as u8)?;
+    Ok(())
+}
+
+// A comma, and a number in decimal.
+fn push_field(text: &mut Vec<u8>, n: u64) -> Result<(), AllocError>
+    ensures { OnOk result (text.new.items ≡ text.old.items ++ (44 ∷ decimal n)) }
+{
+    text.push(b',')?;
+    push_number(text, n)
+}
+
+// Numbers, each after a comma.
+fn push_fields(text: &mut Vec<u8>, numbers: &[u64]) -> Result<(), AllocError>
+    ensures { OnOk result (text.new.items ≡ text.old.items ++ listed numbers.now) }
 {
     for n in numbers {
-        let field = format!(in *text.allocator(); ",{n}")?;
-        text.extend_from_slice(field.as_bytes())?;
+        push_field(text, *n)?;
+    }
+    Ok(())
+}
+
+// Leg numbers, each after a comma.
+fn push_legs(text: &mut Vec<u8>, legs: &[u16]) -> Result<(), AllocError>
+    ensures { OnOk result (text.new.items ≡ text.old.items ++ listed legs.now) }
+{
+    for leg in legs {
+        push_field(text, u64::from(*leg))?;
     }
     Ok(())
 }
@@ -32,7 +61,7 @@ fn push_line(
 {
     text.extend_from_slice(word)?;
     push_fields(text, numbers)?;
-    push_fields(text, legs)?;
+    push_legs(text, legs)?;
     text.push(b'\n')?;
     Ok(())
 }

@@ -1,9 +1,9 @@
-use Rattle.std.proofs.Common.{◌∙◌, rules, arith, string_bytes}
-use Rattle.report.proofs.Listing.{printed_more, as_many, listed_end}
+use Rattle.std.proofs.Common.{◌∙◌}
+use Rattle.report.proofs.Listing.{listed_more, listed_end}
 use Rattle.report.proofs.lines.push_fields.Goals as goal
 
 pub loop-n-preserved : goal.loop-n-preserved
-loop-n-preserved g c ns p = printed_more _ _ ns _ (string_bytes c.in_ok-field.field) _ _ _ p c.loop-n-test.true c.n-item.is (search rules) (search rules) ∙ c.loop-n.invariant ns p
+loop-n-preserved c = listed_more _ _ _ _ c.loop-n-test.true c.in_ok-push_field.ensures ∙ c.loop-n.invariant
 
 pub returns : goal.returns
-returns g c ns p = listed_end _ ns _ (omega (arith, c.loop-n-test.false, as_many _ _ ns p)) ∙ c.loop-n.invariant ns p
+returns c = listed_end _ _ _ c.loop-n-test.false ∙ c.loop-n.invariant
